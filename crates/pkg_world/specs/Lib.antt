@@ -1,3 +1,5 @@
 pub mod Listing
 pub mod Path
 pub mod Steps
+pub mod Tree
+pub mod Outside
