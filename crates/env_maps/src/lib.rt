@@ -3,6 +3,10 @@
 
 mod active;
 mod fault;
+mod halt;
+mod id;
+mod project;
 
 pub use active::active_project;
 pub use fault::EnvFault;
+pub use id::{Context, Id};

@@ -1,0 +1,69 @@
+//! The values at a table's keys.
+ghost use Rattle.std.specs.Prelude.{◌≡◌, Some, Ok, MatchResult, option_map};
+ghost use Rattle.std.specs.Option.{option_copied};
+ghost use Rattle.toml.specs.Data.{get_member};
+ghost use Rattle.toml.specs.View.{view, table_view};
+ghost use Rattle.toml_view.specs.Reading.{opt, need, text_of};
+ghost use Rattle.toml_view.specs.Answers.{RefusesKey, IsShapeFault};
+
+use pkg_world::Text;
+use std::alloc::Global;
+use thiserror::Error;
+use toml::{Table, Value};
+
+/// Why a key has no value of the wanted kind.
+#[derive(Debug, Drop, Error)]
+pub enum KeyFault {
+    /// The value at this key path, the keys joined by dots, has another kind, or a needed key is absent.
+    #[error("another shape at {0}")]
+    BadShape(Text),
+    #[error("no memory")]
+    Memory,
+}
+
+/// The value at a key.
+pub(crate) fn member<'a>(table: &'a Table, key: &str) -> Option<&'a Value>
+    ensures { option_map (λ v. view v.now) result ≡ get_member key.now (table_view table.now) }
+{
+    table.get(key)
+}
+
+/// The text at a key that may be absent. It is refused as BadShape of the key exactly where the value is no text.
+pub fn opt_text<'a>(alloc: Global, table: &'a Table, key: &str) -> Result<Option<&'a str>, KeyFault>
+    ensures { MatchResult result
+        (λ found. opt text_of key.now (table_view table.now) ≡ Ok (option_copied found))
+        (λ fault. RefusesKey fault (opt text_of key.now (table_view table.now))) }
+{
+    match member(table, key) {
+        None => Ok(None),
+        Some(value) => match value.as_str() {
+            Some(text) => Ok(Some(text)),
+            None => Err(shape_fault(alloc, key)),
+        },
+    }
+}
+
+/// The text at a needed key. It is refused as BadShape of the key exactly where the key is absent or its value is no text.
+pub fn need_text<'a>(alloc: Global, table: &'a Table, key: &str) -> Result<&'a str, KeyFault>
+    ensures { MatchResult result
+        (λ found. need text_of key.now (table_view table.now) ≡ Ok found.now)
+        (λ fault. RefusesKey fault (need text_of key.now (table_view table.now))) }
+{
+    match member(table, key) {
+        None => Err(shape_fault(alloc, key)),
+        Some(value) => match value.as_str() {
+            Some(text) => Ok(text),
+            None => Err(shape_fault(alloc, key)),
+        },
+    }
+}
+
+/// The refusal of that key, or want of memory.
+fn shape_fault(alloc: Global, key: &str) -> KeyFault
+    ensures { IsShapeFault key.now result }
+{
+    match Text::of(alloc, key) {
+        Ok(path) => KeyFault::BadShape(path),
+        Err(_) => KeyFault::Memory,
+    }
+}

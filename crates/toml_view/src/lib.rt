@@ -1,0 +1,12 @@
+//! TOML files as tables: the table of a file's bytes, and the values at its keys, each refusal with its key path.
+#![tactic(auto)]
+
+mod document;
+mod keys;
+mod nesting;
+mod refusal;
+
+pub use document::{ViewFault, view};
+pub use keys::{KeyFault, need_text, opt_text};
+pub use refusal::{Flaw, Refusal, Stop};
+pub use toml::{Table, Value};
