@@ -1,0 +1,5 @@
+pub mod Lines
+pub mod Words
+pub mod Import
+pub mod Due
+pub mod Answers
