@@ -1,5 +1,6 @@
 -- What each status, and each answer on the way to it, says.
-use Rattle.std.specs.Prelude.{◌≡◌, ℕ, List, ◌++◌, take, Option, Some, None, option_map, Result, Ok, Err, MatchResult, MatchOption}
+use Rattle.std.specs.Prelude.{◌≡◌, ℕ, List, ◌++◌, take, Option, Some, None, option_map, Result, Ok, Err, MatchResult, MatchOption, String, string_bytes}
+use Rattle.std.specs.declared.alloc.Global.{Global}
 use Rattle.pkg_world.specs.Outside.{Rose}
 use Rattle.pkg_top.specs.declared.status.Status.{Status}
 use Rattle.pkg_top.specs.declared.status.Status.TheVariants.{Ok as StatusOk, BadWords, BadFile, NoIdentity, NoSource, ReadFault, NotBuilt, Memory, SinkFault}
@@ -20,6 +21,10 @@ Refuses due (ReadFault path) = Unit {0}
 Refuses due (NotBuilt word) = due ≡ Err (NotBuilt word)
 Refuses due Memory = Unit {0}
 Refuses due SinkFault = ⊥
+
+-- the line that is due, or the refusal
+abbrev pub Answers : Result (List ℕ) Status → Result (String Global) Status → Type 0
+Answers due answer = MatchResult answer (λ line. due ≡ Ok (string_bytes line)) (Refuses due)
 
 -- the refusal that is due by words and place alone, or want of memory
 abbrev pub RefusesEarly : Option Status → Status → Type 0
@@ -48,6 +53,11 @@ IsTimely (Some refusal) status = RefusesEarly (Some refusal) status
 abbrev pub ReadFaultRose : ℕ → ℕ → Status → Type 0
 ReadFaultRose before now (ReadFault path) = Rose before now
 ReadFaultRose before now _ = Unit {0}
+
+abbrev pub NoFault : Status → Type 0
+NoFault (ReadFault path) = ⊥
+NoFault SinkFault = ⊥
+NoFault _ = Unit {0}
 
 -- a failed print comes only where its count rose
 abbrev pub SinkFaultRose : ℕ → ℕ → Status → Type 0

@@ -41,13 +41,13 @@ unbuilt_option word =
     else if is_option (codes "--ext") word then Some (codes "--ext")
     else None
 
+abbrev pub or_next : Option Word → Option Word → Option Word
+or_next (Some option) next = Some option
+or_next None next = next
+
 abbrev pub first_unbuilt : List Word → Option Word
 first_unbuilt [] = None
 first_unbuilt (word ∷ more) = or_next (unbuilt_option word) (first_unbuilt more)
-  where
-    abbrev or_next : Option Word → Option Word → Option Word
-    or_next (Some option) next = Some option
-    or_next None next = next
 
 -- exactly one name
 abbrev pub one_name : Option (List Word) → Asked

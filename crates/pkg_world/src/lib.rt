@@ -5,6 +5,7 @@
 mod cause;
 mod list;
 mod path;
+mod pieces;
 mod place;
 mod sink;
 mod store;
@@ -13,6 +14,7 @@ mod text;
 pub use cause::{Cause, LimitKind};
 pub use list::{Bytes, Ids, Listed, Names, NormPaths, States, TextList};
 pub use path::{NormPath, PathFault};
+pub use pieces::first_piece;
 pub use place::{Home, Place};
 pub use sink::{PutAnswer, Sink};
 pub use store::{KindAnswer, ListAnswer, ReadAnswer, Store, WriteAnswer};
