@@ -8,7 +8,9 @@ mod path;
 mod place;
 mod sink;
 mod store;
+mod sure;
 mod text;
+mod tree;
 
 pub use cause::{Cause, LimitKind};
 pub use list::{Bytes, Ids, Listed, Names, NormPaths, States, TextList};
@@ -16,4 +18,5 @@ pub use path::{NormPath, PathFault};
 pub use place::{Home, Place};
 pub use sink::{PutAnswer, Sink};
 pub use store::{KindAnswer, ListAnswer, ReadAnswer, Store, WriteAnswer};
+pub use sure::{SureSink, SureStore};
 pub use text::{Duplicate, Name, Text};
