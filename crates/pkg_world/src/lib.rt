@@ -4,6 +4,7 @@
 
 mod cause;
 mod list;
+mod mem;
 mod path;
 mod place;
 mod sink;
@@ -14,6 +15,7 @@ mod tree;
 
 pub use cause::{Cause, LimitKind};
 pub use list::{Bytes, Ids, Listed, Names, NormPaths, States, TextList};
+pub use mem::{MemSink, MemStore, PutFail, StoreCall};
 pub use path::{NormPath, PathFault};
 pub use place::{Home, Place};
 pub use sink::{PutAnswer, Sink};
