@@ -3,3 +3,5 @@ pub mod Path
 pub mod Steps
 pub mod Tree
 pub mod Outside
+pub mod Stored
+pub mod Held
