@@ -4,6 +4,7 @@
 
 mod cause;
 mod list;
+mod named;
 mod path;
 mod place;
 mod sink;
@@ -12,6 +13,7 @@ mod text;
 
 pub use cause::{Cause, LimitKind};
 pub use list::{Bytes, Ids, Listed, Names, NormPaths, States, TextList};
+pub use named::{NameIds, Named};
 pub use path::{NormPath, PathFault};
 pub use place::{Home, Place};
 pub use sink::{PutAnswer, Sink};

@@ -4,9 +4,13 @@
 mod document;
 mod keys;
 mod nesting;
+mod reader;
 mod refusal;
+mod values;
 
 pub use document::{ViewFault, view};
 pub use keys::{KeyFault, need_text, opt_text};
+pub use reader::{Reader, need, opt, read_at};
 pub use refusal::{Flaw, Refusal, Stop};
 pub use toml::{Table, Value};
+pub use values::{NamedValues, Values};
