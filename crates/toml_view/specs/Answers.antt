@@ -53,3 +53,8 @@ abbrev pub IsRaised : List ℕ → Stop → Stop → Type 0
 IsRaised key (Refused refusal) (Refused above) = above ≡ under key refusal
 IsRaised key StopMemory (Refused above) = ⊥
 IsRaised key stop StopMemory = Unit {0}
+
+-- the fault of a getter, from the stop of the reading
+abbrev pub IsKeyFault : KeyFault → Stop → Type 0
+IsKeyFault (BadShape path) stop = stop ≡ Refused (shape_at path)
+IsKeyFault KeyMemory stop = stop ≡ StopMemory
