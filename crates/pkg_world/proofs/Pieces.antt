@@ -14,7 +14,7 @@ pieces_split [] h = absurd (omega arith)
 pieces_split (b ∷ bs) h =
     let n = position_or_len (λ c. c == 47) bs in
     elim (b == 47) as (λ t. cond (not t) (1 + n) 0 < suc (length bs) → (if t then [] ∷ pieces bs else onto_first b (pieces bs))
-        ≡ take (cond (not t) (1 + n) 0) (b ∷ bs) ∷ pieces (drop (cond (not t) (1 + n) 0 + 1) (b ∷ bs))) [
+    ≡ take (cond (not t) (1 + n) 0) (b ∷ bs) ∷ pieces (drop (cond (not t) (1 + n) 0 + 1) (b ∷ bs))) [
       | true ↦ λ _. refl
       | false ↦ λ more. rw (pieces_split bs (omega arith)) (onto_cut b bs n (1 + n) (1 + n + 1) (omega arith) (omega arith))
     ] h

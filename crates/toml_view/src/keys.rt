@@ -3,7 +3,7 @@ ghost use Rattle.std.specs.Prelude.{◌≡◌, Some, Ok, MatchResult, option_map
 ghost use Rattle.std.specs.Option.{option_copied};
 ghost use Rattle.toml.specs.Data.{get_member};
 ghost use Rattle.toml.specs.View.{view, table_view};
-ghost use Rattle.toml_view.specs.Reading.{opt, need, text_of, uuid_of, table_at, texts_at};
+ghost use Rattle.toml_view.specs.Reading.{at, opt, need, text_of, uuid_of, table_at, texts_at};
 ghost use Rattle.toml_view.specs.Answers.{RefusesKey, IsShapeFault, IsKeyFault, HasPath};
 
 use crate::readers::{UuidReader, table_at, texts_at};
@@ -38,9 +38,9 @@ pub fn opt_text<'a>(alloc: Global, table: &'a Table, key: &str) -> Result<Option
 {
     match member(table, key) {
         None => Ok(None),
-        Some(value) => match value.as_str() {
-            Some(text) => Ok(Some(text)),
-            None => Err(shape_fault(alloc, key)),
+        Some(value) => match text_at(alloc, key, value) {
+            Ok(text) => Ok(Some(text)),
+            Err(fault) => Err(fault),
         },
     }
 }
@@ -53,10 +53,20 @@ pub fn need_text<'a>(alloc: Global, table: &'a Table, key: &str) -> Result<&'a s
 {
     match member(table, key) {
         None => Err(shape_fault(alloc, key)),
-        Some(value) => match value.as_str() {
-            Some(text) => Ok(text),
-            None => Err(shape_fault(alloc, key)),
-        },
+        Some(value) => text_at(alloc, key, value),
+    }
+}
+
+/// The text that stands at that key.
+fn text_at<'a>(alloc: Global, key: &str, value: &'a Value) -> Result<&'a str, KeyFault>
+    ensures { MatchResult result
+        (λ text. at key.now (text_of (view value.now)) ≡ Ok text.now)
+        (λ fault. RefusesKey fault (at key.now (text_of (view value.now)))) }
+{
+    if let Some(text) = value.as_str() {
+        Ok(text)
+    } else {
+        Err(shape_fault(alloc, key))
     }
 }
 

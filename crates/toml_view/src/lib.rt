@@ -7,6 +7,8 @@ mod nesting;
 mod reader;
 mod readers;
 mod refusal;
+#[cfg(test)]
+mod tests;
 mod values;
 
 pub use document::{ViewFault, view};
