@@ -1,6 +1,6 @@
 -- Paths. A path is the list of its parts, from the root on.
-use Rattle.std.specs.Prelude.{◌≡◌, ℕ, ◌-◌, ◌==◌, Bool, ◌||◌, if◌then◌else◌, List, [], ◌∷◌, ◌++◌, length, take, Option, Some, None, Result, MatchResult, codes}
-use Rattle.std.specs.List.{flat_map}
+use Rattle.std.specs.Prelude.{◌≡◌, ℕ, ◌-◌, ◌==◌, Bool, true, false, not, ◌||◌, ◌&&◌, if◌then◌else◌, List, [], ◌∷◌, ◌++◌, length, take, Option, Some, None, Result, MatchResult, codes}
+use Rattle.std.specs.List.{flat_map, list_all, ends_with, slice_get}
 use Rattle.std.specs.Option.{option_and_then}
 use Rattle.std.specs.Str.{bytes_eq}
 use Rattle.pkg_world.specs.declared.path.PathFault.{PathFault}
@@ -8,6 +8,26 @@ use Rattle.pkg_world.specs.declared.path.PathFault.TheVariants.{Escapes, Memory}
 
 abbrev pub Path : Type 0
 Path = List (List ℕ)
+
+-- a part that stands in a path: not empty, not `.` or `..`, and without a slash
+abbrev pub is_plain : List ℕ → Bool
+is_plain part = not (bytes_eq part [] || (bytes_eq part (codes ".") || bytes_eq part (codes ".."))) && list_all (λ b. not (b == 47)) part
+
+-- a path has plain parts alone
+abbrev pub are_plain : Path → Bool
+are_plain = list_all is_plain
+
+-- the folder that holds what a path names; the root for the root
+abbrev pub folder_of : Path → Path
+folder_of path = take (length path - 1) path
+
+-- whether the last part of a path ends in a text; the root has no part
+abbrev pub part_ends_in : List ℕ → Option (List ℕ) → Bool
+part_ends_in suffix None = false
+part_ends_in suffix (Some part) = ends_with (λ a b. a == b) part suffix
+
+abbrev pub last_ends_in : Path → List ℕ → Bool
+last_ends_in path suffix = part_ends_in suffix (slice_get path (length path - 1))
 
 -- a piece of text with one more byte before it
 abbrev pub onto_first : ℕ → List (List ℕ) → List (List ℕ)

@@ -1,6 +1,7 @@
 -- What the steps of joining a path cite.
-use Rattle.std.specs.Prelude.{◌≡◌, ℕ, List, ◌<◌, [], ◌∷◌, length, map, Option, Some, MatchOption, Result, MatchResult, String, string_bytes}
+use Rattle.std.specs.Prelude.{◌≡◌, ℕ, ◌==◌, true, not, List, ◌<◌, [], ◌∷◌, length, map, Option, Some, MatchOption, Result, MatchResult, String, string_bytes}
 use Rattle.std.specs.Borrow.{Bor}
+use Rattle.std.specs.List.{list_all}
 use Rattle.std.specs.Str.{IsUtf8}
 use Rattle.std.specs.declared.alloc.Global.{Global}
 use Rattle.pkg_world.specs.declared.path.PathFault.{PathFault}
@@ -14,4 +15,4 @@ StepGives old new piece answer =
 -- a text is one piece, or its first piece and a shorter text of further ones
 abbrev pub CutsFirst : List ℕ → Option (Bor (List ℕ) × Bor (List ℕ)) → Type 0
 CutsFirst text found =
-    MatchOption found (pieces text ≡ text ∷ []) (λ x. (pieces text ≡ x.0.now ∷ pieces x.1.now) × (length x.1.now < length text) × IsUtf8 x.1.now)
+    MatchOption found ((pieces text ≡ text ∷ []) × (list_all (λ b. not (b == 47)) text ≡ true)) (λ x. (pieces text ≡ x.0.now ∷ pieces x.1.now) × (length x.1.now < length text) × IsUtf8 x.1.now × (list_all (λ b. not (b == 47)) x.0.now ≡ true))

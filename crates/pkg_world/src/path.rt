@@ -1,6 +1,8 @@
 //! Absolute paths without `.`, `..` or empty parts.
-ghost use Rattle.std.specs.Prelude.{◌≡◌, ◌∷◌, ◌++◌, if◌then◌else◌, [], map, IfOk, OnOk, string_bytes};
-ghost use Rattle.pkg_world.specs.Path.{joined, along, path_text, is_absolute, GivesPath};
+ghost use Rattle.std.specs.Prelude.{◌≡◌, ◌∷◌, ◌++◌, true, if◌then◌else◌, [], map, IfOk, OnOk, OnErr, string_bytes};
+ghost use Rattle.pkg_world.specs.Path.{joined, along, path_text, is_absolute, is_plain, are_plain, folder_of, last_ends_in as last_part_ends_in, GivesPath};
+ghost use Rattle.std.specs.Prelude.{◌==◌, not};
+ghost use Rattle.std.specs.List.{list_all};
 ghost use Rattle.pkg_world.specs.Steps.{StepGives, CutsFirst};
 
 use crate::text::Duplicate;
@@ -41,11 +43,12 @@ impl Model for NormPath {
 
     ghost Value = { List (List ℕ) };
 
-    ghost use Rattle.pkg_world.specs.Path.{slashed};
+    ghost use Rattle.std.specs.Prelude.{true};
+    ghost use Rattle.pkg_world.specs.Path.{slashed, are_plain};
 
     ghost view = { λ a. map string_bytes a.parts.items };
 
-    ghost invariant = { λ a. string_bytes a.text ≡ slashed (map string_bytes a.parts.items) };
+    ghost invariant = { λ a. (string_bytes a.text ≡ slashed (map string_bytes a.parts.items)) × (are_plain (map string_bytes a.parts.items) ≡ true) };
 }
 
 impl NormPath {
@@ -59,9 +62,10 @@ impl NormPath {
         }
     }
 
-    /// The path as it is printed: each part behind a slash, the root as `/`.
+    /// The path as it is printed: each part behind a slash, the root as `/`. No part is empty, `.` or `..`.
     pub fn as_str(&self) -> &str
-        ensures { result.now ≡ path_text self.now }
+        ensures text { result.now ≡ path_text self.now }
+        ensures plain { are_plain self.now ≡ true }
     {
         if self.parts.is_empty() {
             "/"
@@ -89,6 +93,35 @@ impl NormPath {
                     return Ok(from_parts(alloc, parts)?);
                 }
             }
+        }
+    }
+
+    /// The path of a plain part inside this folder. The one error is want of memory.
+    pub fn child(&self, alloc: Global, part: &str) -> Result<NormPath, AllocError>
+        requires { is_plain part.now ≡ true }
+        ensures { IfOk result (λ path. path ≡ self.now ++ part.now ∷ []) }
+    {
+        let mut parts = copy_parts(alloc, &self.parts)?;
+        push_part(alloc, &mut parts, part)?;
+        from_parts(alloc, parts)
+    }
+
+    /// The folder that holds what this path names; the root for the root. The one error is want of memory.
+    pub fn folder(&self, alloc: Global) -> Result<NormPath, AllocError>
+        ensures { IfOk result (λ path. path ≡ folder_of self.now) }
+    {
+        let mut parts = copy_parts(alloc, &self.parts)?;
+        let _ = parts.pop();
+        from_parts(alloc, parts)
+    }
+
+    /// Whether the last part ends in that text; the root has no part.
+    pub fn last_ends_in(&self, suffix: &str) -> bool
+        ensures { result ≡ last_part_ends_in self.now suffix.now }
+    {
+        match self.parts.last() {
+            Some(part) => part.as_bytes().ends_with(suffix.as_bytes()),
+            None => false,
         }
     }
 
@@ -123,7 +156,8 @@ fn copy_parts(alloc: Global, parts: &Vec<String>) -> Result<Vec<String>, AllocEr
 }
 
 fn start(alloc: Global, base: &NormPath, text: &str) -> Result<Vec<String>, AllocError>
-    ensures { IfOk result (λ parts. map string_bytes parts.items ≡ (if is_absolute text.now then [] else base.now)) }
+    ensures parts { IfOk result (λ parts. map string_bytes parts.items ≡ (if is_absolute text.now then [] else base.now)) }
+    ensures plain { IfOk result (λ parts. are_plain (map string_bytes parts.items) ≡ true) }
 {
     if text.as_bytes().first() == Some(&b'/') {
         Ok(Vec::new(alloc))
@@ -133,7 +167,7 @@ fn start(alloc: Global, base: &NormPath, text: &str) -> Result<Vec<String>, Allo
 }
 
 /// The first piece of a text and what follows its slash; None where the text is one piece.
-#[tactic(auto, using(crate::proofs::Pieces::pieces_split, crate::proofs::Pieces::pieces_one, crate::proofs::Pieces::after_slash))]
+#[tactic(auto, using(crate::proofs::Pieces::pieces_split, crate::proofs::Pieces::pieces_one, crate::proofs::Pieces::after_slash, crate::proofs::Pieces::before_slash, crate::proofs::Pieces::no_slash))]
 fn first_piece(text: &str) -> Option<(&str, &str)>
     ensures { CutsFirst text.now result }
 {
@@ -142,7 +176,10 @@ fn first_piece(text: &str) -> Option<(&str, &str)>
 
 /// Goes along one piece between slashes.
 fn step(alloc: Global, parts: &mut Vec<String>, piece: &str) -> Result<(), PathFault>
-    ensures { StepGives parts.old.items parts.new.items piece.now result }
+    requires no_slash { list_all (λ b. not (b == 47)) piece.now ≡ true }
+    requires plain { are_plain (map string_bytes parts.old.items) ≡ true }
+    ensures moved { StepGives parts.old.items parts.new.items piece.now result }
+    ensures plain { are_plain (map string_bytes parts.new.items) ≡ true }
 {
     if piece.is_empty() || piece == "." {
         return Ok(());
@@ -158,7 +195,8 @@ fn step(alloc: Global, parts: &mut Vec<String>, piece: &str) -> Result<(), PathF
 }
 
 fn push_part(alloc: Global, parts: &mut Vec<String>, piece: &str) -> Result<(), AllocError>
-    ensures { OnOk result (map string_bytes parts.new.items ≡ map string_bytes parts.old.items ++ piece.now ∷ []) }
+    ensures ok { OnOk result (map string_bytes parts.new.items ≡ map string_bytes parts.old.items ++ piece.now ∷ []) }
+    ensures err { OnErr result (parts.new.items ≡ parts.old.items) }
 {
     parts.push(String::from_str(alloc, piece)?)?;
     Ok(())
@@ -166,6 +204,7 @@ fn push_part(alloc: Global, parts: &mut Vec<String>, piece: &str) -> Result<(), 
 
 /// The path of these parts.
 fn from_parts(alloc: Global, parts: Vec<String>) -> Result<NormPath, AllocError>
+    requires { are_plain (map string_bytes parts.items) ≡ true }
     ensures { IfOk result (λ path. path ≡ map string_bytes parts.items) }
 {
     let mut text = String::new(alloc);

@@ -1,0 +1,12 @@
+//! Environments: which file is the active project's, and what a project's files make of names.
+#![tactic(auto)]
+
+mod active;
+mod fault;
+mod halt;
+mod id;
+mod project;
+
+pub use active::active_project;
+pub use fault::EnvFault;
+pub use id::{Context, Id};
