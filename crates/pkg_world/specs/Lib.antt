@@ -1,4 +1,5 @@
 pub mod Listing
+pub mod ByName
 pub mod Path
 pub mod Steps
 pub mod Tree

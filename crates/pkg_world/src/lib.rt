@@ -5,6 +5,7 @@
 mod cause;
 mod list;
 mod mem;
+mod named;
 mod path;
 mod pieces;
 mod place;
@@ -17,6 +18,7 @@ mod tree;
 pub use cause::{Cause, LimitKind};
 pub use list::{Bytes, Ids, Listed, Names, NormPaths, States, TextList};
 pub use mem::{MemSink, MemStore, PutFail, StoreCall};
+pub use named::{NameIds, Named};
 pub use path::{NormPath, PathFault};
 pub use pieces::first_piece;
 pub use place::{Home, Place};

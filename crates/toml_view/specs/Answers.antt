@@ -1,10 +1,11 @@
 -- What each answer of the crate's calls tells of the bytes and tables.
-use Rattle.std.specs.Prelude.{◌≡◌, ℕ, List, String, Some, Result, Ok, Err, MatchResult}
+use Rattle.std.specs.Prelude.{◌≡◌, ℕ, List, String, Some, IsSome, Result, Ok, Err, MatchResult}
 use Rattle.toml.specs.Data.{Members}
 use Rattle.std.specs.BTreeMap.{BTreeMap}
 use Rattle.std.specs.declared.alloc.Global.{Global}
 use Rattle.toml.specs.View.{table_view}
 use Rattle.toml.specs.declared.value.Value.{Value}
+use Rattle.toml_view.specs.Reading.{under}
 use Rattle.toml_view.specs.Document.{viewed, bad_toml, deep}
 use Rattle.toml_view.specs.declared.document.ViewFault.{ViewFault}
 use Rattle.toml_view.specs.declared.keys.KeyFault.{KeyFault}
@@ -41,3 +42,19 @@ RefusesKey KeyMemory reading = Unit {0}
 abbrev pub IsShapeFault : List ℕ → KeyFault → Type 0
 IsShapeFault key (BadShape path) = path ≡ key
 IsShapeFault key KeyMemory = Unit {0}
+
+-- a refusal of a table's value has a path
+abbrev pub HasPath : Stop → Type 0
+HasPath (Refused refusal) = IsSome refusal.path
+HasPath StopMemory = Unit {0}
+
+-- a stop as it is seen from the table above; the new path may want memory
+abbrev pub IsRaised : List ℕ → Stop → Stop → Type 0
+IsRaised key (Refused refusal) (Refused above) = above ≡ under key refusal
+IsRaised key StopMemory (Refused above) = ⊥
+IsRaised key stop StopMemory = Unit {0}
+
+-- the fault of a getter, from the stop of the reading
+abbrev pub IsKeyFault : KeyFault → Stop → Type 0
+IsKeyFault (BadShape path) stop = stop ≡ Refused (shape_at path)
+IsKeyFault KeyMemory stop = stop ≡ StopMemory

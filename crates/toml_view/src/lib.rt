@@ -4,9 +4,19 @@
 mod document;
 mod keys;
 mod nesting;
+mod reader;
+mod readers;
 mod refusal;
+#[cfg(test)]
+mod tests;
+mod values;
 
 pub use document::{ViewFault, view};
-pub use keys::{KeyFault, need_text, opt_text};
+pub use keys::{KeyFault, need_text, opt_text, text_or_list, uuid_table};
+pub use reader::{Reader, need, opt, read_at};
+pub use readers::{
+    Each, ListOf, NameReader, TextReader, TextsReader, UuidReader, table_at, texts_at,
+};
 pub use refusal::{Flaw, Refusal, Stop};
 pub use toml::{Table, Value};
+pub use values::{NamedValues, Values};
