@@ -2,6 +2,9 @@ pub mod Active
 pub mod Faults
 pub mod Seen
 pub mod Project
+pub mod Manifest
 pub mod Maps
 pub mod Answers
 pub mod Owns
+pub mod Stanzas
+pub mod Views

@@ -2,11 +2,16 @@
 #![tactic(auto)]
 
 mod active;
+mod entry;
 mod environment;
 mod fault;
+mod file;
 mod halt;
 mod id;
+mod manifest;
+mod manifest_path;
 mod project;
+mod stanza;
 
 pub use active::active_project;
 pub use environment::ProjectEnv;

@@ -15,7 +15,7 @@ pieces_split mark [] h = absurd (omega arith)
 pieces_split mark (b ∷ bs) h =
     let n = position_or_len (λ c. c == mark) bs in
     elim (b == mark) as (λ t. cond (not t) (1 + n) 0 < suc (length bs) → (if t then [] ∷ pieces_at mark bs else onto_first b (pieces_at mark bs))
-        ≡ take (cond (not t) (1 + n) 0) (b ∷ bs) ∷ pieces_at mark (drop (cond (not t) (1 + n) 0 + 1) (b ∷ bs))) [
+    ≡ take (cond (not t) (1 + n) 0) (b ∷ bs) ∷ pieces_at mark (drop (cond (not t) (1 + n) 0 + 1) (b ∷ bs))) [
       | true ↦ λ _. refl
       | false ↦ λ more. rw (pieces_split mark bs (omega arith)) (onto_cut mark b bs n (1 + n) (1 + n + 1) (omega arith) (omega arith))
     ] h

@@ -37,6 +37,13 @@ impl<T: Drop> Values<T> {
         Self { inside: list }
     }
 
+    /// The values, in order.
+    pub fn items(&self) -> &[T]
+        ensures { result.now ≡ self.now }
+    {
+        self.inside.items()
+    }
+
     /// The list of the values.
     pub fn into_list(self) -> Listed<T>
         ensures { result.items ≡ self }
@@ -78,6 +85,13 @@ impl<T: Drop> NamedValues<T> {
         Self {
             inside: Named::of(list),
         }
+    }
+
+    /// The names and values, in order.
+    pub fn items(&self) -> &[(Name, T)]
+        ensures { result.now ≡ self.now }
+    {
+        self.inside.items()
     }
 
     /// The list of the names and values.

@@ -14,5 +14,5 @@ last_is items path suffix part e f = rw (← e, length-map items string_bytes, s
 pub returns-in-Some : goal.returns-in-Some
 returns-in-Some c =
     let found : slice_get c.self.inside.parts.items (length c.self.inside.parts.items - 1) ≡ Some c.in-Some.part.now =
-        rw (← c.deref.ensures.value) (sym c.last.ensures.value ∙ ap option_copied c.in-Some.is) in
+    rw (← c.deref.ensures.value) (sym c.last.ensures.value ∙ ap option_copied c.in-Some.is) in
     c.ends_with.ensures.value ∙ rw (c.as_bytes.ensures.value, c.as_bytes-in-Some.ensures.value) (sym (last_is c.self.inside.parts.items _ c.args.suffix.now c.in-Some.part.now c.self.view_is found))
