@@ -1,5 +1,5 @@
 -- What each status, and each answer on the way to it, says.
-use Rattle.std.specs.Prelude.{◌≡◌, ℕ, List, ◌++◌, take, Option, Some, None, option_map, Result, Ok, Err, MatchResult, MatchOption, String, string_bytes}
+use Rattle.std.specs.Prelude.{◌≡◌, ℕ, List, ◌++◌, take, codes, Option, Some, None, option_map, Result, Ok, Err, MatchResult, MatchOption, String, string_bytes}
 use Rattle.std.specs.declared.alloc.Global.{Global}
 use Rattle.pkg_world.specs.Outside.{Rose}
 use Rattle.pkg_top.specs.declared.status.Status.{Status}
@@ -38,10 +38,10 @@ RefusesEarly early (NotBuilt word) = early ≡ Some (NotBuilt word)
 RefusesEarly early Memory = Unit {0}
 RefusesEarly early SinkFault = ⊥
 
--- a status that words and place alone can't give
+-- a status that words and place alone don't give
 abbrev pub IsLate : Status → Type 0
 IsLate (BadWords word) = ⊥
-IsLate (NotBuilt word) = ⊥
+IsLate (NotBuilt word) = word ≡ codes "stanza"
 IsLate _ = Unit {0}
 
 -- over a store that may not tell its files: an early refusal comes exactly where it is due
@@ -86,3 +86,19 @@ TellsLine line old new before now ToldMemory = new ≡ old
 abbrev pub Tells : Option (List ℕ) → Option (List ℕ) → ℕ → ℕ → Status → Told → Type 0
 Tells old new before now StatusOk told = (new ≡ old) × (told ≡ Whole)
 Tells old new before now status told = TellsLine (status_line status) old new before now told
+
+-- a status that is not Ok
+abbrev pub IsRefusal : Status → Type 0
+IsRefusal StatusOk = ⊥
+IsRefusal _ = Unit {0}
+
+-- how printing a line ends
+abbrev pub IsPrinted : List ℕ → Option (List ℕ) → Option (List ℕ) → Status → Type 0
+IsPrinted line old new StatusOk = new ≡ option_map (λ text. text ++ line) old
+IsPrinted line old new SinkFault = (kept : ℕ) × (new ≡ option_map (λ text. text ++ take kept line) old)
+IsPrinted line old new Memory = new ≡ old
+IsPrinted line old new _ = ⊥
+
+-- the refusal by words and place, or the answer after them
+abbrev pub AnswersTimely : Option Status → Result (String Global) Status → Type 0
+AnswersTimely early answer = MatchResult answer (λ line. early ≡ None) (IsTimely early)

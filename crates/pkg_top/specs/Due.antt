@@ -2,16 +2,14 @@
 use Rattle.std.specs.Prelude.{ℕ, ◌==◌, if◌then◌else◌, List, [], ◌∷◌, codes, Option, Some, None, option_map, Result, Ok, Err}
 use Rattle.std.specs.List.{starts_with}
 use Rattle.pkg_world.specs.declared.place.Place.{Place}
-use Rattle.pkg_world.specs.declared.cause.Cause.{Cause}
-use Rattle.pkg_world.specs.Path.{Path}
-use Rattle.pkg_world.specs.Tree.{Files, holds}
+use Rattle.pkg_world.specs.Tree.{Files}
 use Rattle.env_maps.specs.Active.{active_file}
-use Rattle.env_maps.specs.Project.{Project, project_in}
+use Rattle.env_maps.specs.Maps.{Env, Read, env_in}
 use Rattle.pkg_top.specs.declared.status.Status.{Status}
 use Rattle.pkg_top.specs.declared.status.Status.TheVariants.{BadWords, BadFile, NoIdentity, NoSource, NotBuilt}
 use Rattle.pkg_top.specs.Lines.{found_line}
 use Rattle.pkg_top.specs.Words.{Word, Asked, which, refused_words, not_built, asked}
-use Rattle.pkg_top.specs.Import.{Import, found, no_identity, no_source, import}
+use Rattle.pkg_top.specs.Import.{Import, found, no_identity, no_source, unbuilt_stanza, import}
 
 -- a project text that begins with an at sign, and a load path, are not built yet
 abbrev pub unbuilt_load_path : Option (List ℕ) → Option Word
@@ -44,16 +42,15 @@ abbrev pub told_import : List ℕ → Import → Result (List ℕ) Status
 told_import name (found id path) = Ok (found_line id path)
 told_import name no_identity = Err (NoIdentity name)
 told_import name (no_source id) = Err (NoSource id.uuid)
+told_import name unbuilt_stanza = Err (NotBuilt (codes "stanza"))
 
-abbrev pub which_in : Files → Path → List ℕ → Result Project Cause → Result (List ℕ) Status
-which_in files file name (Err cause) = Err (BadFile file cause)
-which_in files file name (Ok project) = told_import name (import files (record { file = file; project = project }) name)
+abbrev pub which_of : Files → List ℕ → Read Env → Result (List ℕ) Status
+which_of files name (Err refused) = Err (BadFile refused.0 refused.1)
+which_of files name (Ok env) = told_import name (import files env name)
 
 -- `which` of a name over the active project
 abbrev pub which_due : Files → Place → List ℕ → Result (List ℕ) Status
-which_due files place name =
-    let file = active_file files place in
-    which_in files file name (project_in (holds file files))
+which_due files place name = which_of files name (env_in files (active_file files place))
 
 abbrev pub or_early : Option Status → Result (List ℕ) Status → Result (List ℕ) Status
 or_early None later = later

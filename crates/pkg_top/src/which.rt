@@ -1,22 +1,25 @@
 //! `which`: the identity and the entry file of a name over the active project.
-ghost use Rattle.std.specs.Prelude.{◌≡◌, ◌≤◌, Err, Some, IfSome, IfOk, IfErr, string_bytes};
-ghost use Rattle.pkg_world.specs.Tree.{holds};
+ghost use Rattle.std.specs.Prelude.{◌≡◌, ◌≤◌, Err, Some, codes, IfSome, IfOk, IfErr, string_bytes};
 ghost use Rattle.env_maps.specs.Active.{active_file};
-ghost use Rattle.env_maps.specs.Maps.{path_of};
-ghost use Rattle.env_maps.specs.Project.{project_in};
-ghost use Rattle.pkg_top.specs.Import.{by_path, import as import_meant};
-ghost use Rattle.pkg_top.specs.Due.{which_due, which_in as which_meant, told_import};
+ghost use Rattle.env_maps.specs.Maps.{path_of, env_in};
+ghost use Rattle.pkg_top.specs.Import.{by_path, by_identity, import as import_meant};
+ghost use Rattle.pkg_top.specs.Due.{which_due, which_of, told_import};
 ghost use Rattle.pkg_top.specs.Lines.{found_line as line_of_found};
 ghost use Rattle.pkg_top.specs.Answers.{Answers, Refuses, ReadFaultRose, NoFault, IsLate};
 
 use crate::status::{Status, found_line};
 use env_maps::{Context, EnvFault, Id, ProjectEnv, active_project};
-use pkg_world::{Duplicate, KindAnswer, Name, NormPath, Place, Store};
+use pkg_world::{Duplicate, KindAnswer, Name, NormPath, Place, Store, Text};
 use std::alloc::Global;
 
 /// The line of `which`, or its refusal: the import of a name from the top level over the active project alone.
 /// (Julia manual, Code Loading.)
-pub(crate) fn which<S: Store>(alloc: Global, name: &Name, place: &Place, store: &mut S) -> Result<String, Status>
+pub(crate) fn which<S: Store>(
+    alloc: Global,
+    name: &Name,
+    place: &Place,
+    store: &mut S,
+) -> Result<String, Status>
     ensures answer { IfSome (S.files store.old) (λ all. Answers (which_due all place.now name.now) result) }
     ensures late { IfErr result IsLate }
     ensures fault { IfErr result (ReadFaultRose (S.read_faults store.old) (S.read_faults store.new)) }
@@ -32,8 +35,14 @@ pub(crate) fn which<S: Store>(alloc: Global, name: &Name, place: &Place, store: 
     }
 }
 
-fn which_in<S: Store>(alloc: Global, name: &Name, place: &Place, file: &NormPath, store: &mut S) -> Result<String, Status>
-    ensures answer { IfSome (S.files store.old) (λ all. Answers (which_meant all file.now name.now (project_in (holds file.now all))) result) }
+fn which_in<S: Store>(
+    alloc: Global,
+    name: &Name,
+    place: &Place,
+    file: &NormPath,
+    store: &mut S,
+) -> Result<String, Status>
+    ensures answer { IfSome (S.files store.old) (λ all. Answers (which_of all name.now (env_in all file.now)) result) }
     ensures late { IfErr result IsLate }
     ensures fault { IfErr result (ReadFaultRose (S.read_faults store.old) (S.read_faults store.new)) }
     ensures files { S.files store.new ≡ S.files store.old }
@@ -58,14 +67,16 @@ fn import<S: Store>(alloc: Global, name: &Name, env: &ProjectEnv, store: &mut S)
     ensures other { S.write_faults store.new ≡ S.write_faults store.old }
 {
     match env.root(alloc, name) {
-        Ok(Some(id)) => import_identity(alloc, name, env, &id, store),
+        Ok(Some(id)) => import_built(alloc, name, env, &id, store),
         Ok(None) => Err(no_identity(alloc, name)),
         Err(_) => Err(Status::Memory),
     }
 }
 
 fn no_identity(alloc: Global, name: &Name) -> Status
-    ensures { Refuses (Err (NoIdentity name.now)) result × IsLate result × NoFault result }
+    ensures refusal { Refuses (Err (Status.NoIdentity name.now)) result }
+    ensures late { IsLate result }
+    ensures fault { NoFault result }
 {
     match name.copy(alloc) {
         Ok(name) => Status::NoIdentity(name),
@@ -73,8 +84,41 @@ fn no_identity(alloc: Global, name: &Name) -> Status
     }
 }
 
+/// The import of an identity, where its stanza has a form whose entry is read.
+fn import_built<S: Store>(
+    alloc: Global,
+    name: &Name,
+    env: &ProjectEnv,
+    id: &Id,
+    store: &mut S,
+) -> Result<String, Status>
+    ensures answer { IfSome (S.files store.old) (λ all. Answers (told_import name.now (by_identity all env.now (Some id.now))) result) }
+    ensures late { IfErr result IsLate }
+    ensures fault { IfErr result (ReadFaultRose (S.read_faults store.old) (S.read_faults store.new)) }
+    ensures files { S.files store.new ≡ S.files store.old }
+    ensures later { S.read_faults store.old ≤ S.read_faults store.new }
+    ensures other { S.write_faults store.new ≡ S.write_faults store.old }
+{
+    if env.is_unbuilt(id) {
+        Err(unbuilt_stanza(alloc))
+    } else {
+        import_identity(alloc, name, env, id, store)
+    }
+}
+
+fn unbuilt_stanza(alloc: Global) -> Status
+    ensures refusal { Refuses (Err (Status.NotBuilt (codes "stanza"))) result }
+    ensures late { IsLate result }
+    ensures fault { NoFault result }
+{
+    match Text::of(alloc, "stanza") {
+        Ok(word) => Status::NotBuilt(word),
+        Err(_) => Status::Memory,
+    }
+}
+
 fn import_identity<S: Store>(alloc: Global, name: &Name, env: &ProjectEnv, id: &Id, store: &mut S) -> Result<String, Status>
-    ensures answer { IfSome (S.files store.old) (λ all. Answers (told_import name.now (by_path all id.now (path_of env.now id.now))) result) }
+    ensures answer { IfSome (S.files store.old) (λ all. Answers (told_import name.now (by_path all id.now (path_of all env.now id.now))) result) }
     ensures late { IfErr result IsLate }
     ensures fault { IfErr result (ReadFaultRose (S.read_faults store.old) (S.read_faults store.new)) }
     ensures files { S.files store.new ≡ S.files store.old }
@@ -109,7 +153,7 @@ fn import_path<S: Store>(alloc: Global, name: &Name, id: &Id, path: NormPath, st
 
 fn told(alloc: Global, id: &Id, path: &NormPath) -> Result<String, Status>
     ensures line { IfOk result (λ line. string_bytes line ≡ line_of_found id.now path.now) }
-    ensures memory { IfErr result (λ status. status ≡ Memory) }
+    ensures memory { IfErr result (λ status. status ≡ Status.Memory) }
 {
     match found_line(alloc, id, path) {
         Ok(line) => Ok(line),
