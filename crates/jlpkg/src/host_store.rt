@@ -7,7 +7,7 @@
 //! two calls, so the store tells no files, and no clause of this file speaks of what they hold.
 //!
 //! Links are followed. A special file counts as a file, and a name in a folder that is not UTF-8 is passed over.
-ghost use Rattle.std.specs.Prelude.{◌≡◌};
+ghost use Rattle.std.specs.Prelude.{◌≡◌, ◌≤◌, IfOk, vec_len};
 
 use pkg_world::{
     Bytes, KindAnswer, ListAnswer, Name, Names, NormPath, ReadAnswer, Store, WriteAnswer,
@@ -138,7 +138,9 @@ fn read_at<R: Files>(host: &R, alloc: Global, path: &str) -> ReadAnswer {
 }
 
 /// All bytes of a file, or FileTooLarge past the limits.
-fn contents<R: Files>(host: &R, alloc: Global, path: &str) -> io::Result<Vec<u8>> {
+fn contents<R: Files>(host: &R, alloc: Global, path: &str) -> io::Result<Vec<u8>>
+    ensures { IfOk result (λ bytes. vec_len bytes ≤ MOST_BYTES) }
+{
     let mut file = fs::open(host, path)?;
     let mut buffer = vec![in alloc; 0u8; TURN_BYTES]?;
     let mut bytes = Vec::new(alloc);

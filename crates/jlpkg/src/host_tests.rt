@@ -9,6 +9,7 @@ use std::alloc::{AllocError, Global};
 use std::test::Fail;
 use std::{env, fs, io, process, str};
 
+#[derive(Clone, Copy)]
 enum Call {
     Read,
     Kind,
@@ -17,6 +18,7 @@ enum Call {
 }
 
 /// A store over the machine, and the folder of the test.
+#[derive(Drop)]
 struct Ground {
     alloc: Global,
     store: HostStore<HostRuntime>,
@@ -109,9 +111,9 @@ fn said_by_put(answer: &PutAnswer) -> &'static str {
     }
 }
 
-/// A path with a part that is longer than any name of the machine.
-fn too_long(alloc: Global) -> Result<String, AllocError> {
-    let mut text = String::from_str(alloc, "gone/")?;
+/// A path in a folder with a part that is longer than any name of the machine.
+fn too_long(alloc: Global, folder: &str) -> Result<String, AllocError> {
+    let mut text = String::from_str(alloc, folder)?;
     for _ in 0..300 {
         text.push('x')?;
     }
@@ -133,8 +135,10 @@ fn make_sparse(
 #[test]
 fn the_store_answers_by_the_folder_and_counts_what_failed(rt: HostRuntime) -> Result<(), Fail> {
     let mut ground = Ground::make(rt)?;
-    let long = too_long(rt.alloc())?;
+    let long = too_long(rt.alloc(), "new/")?;
     let long = long.as_str();
+    let lost = too_long(rt.alloc(), "gone/")?;
+    let lost = lost.as_str();
     let rows = [
         (Call::Replace, "new/deep/text", "Done", 0, 0),
         (Call::Read, "new/deep/text", "new/deep/text", 0, 0),
@@ -159,7 +163,7 @@ fn the_store_answers_by_the_folder_and_counts_what_failed(rt: HostRuntime) -> Re
         (Call::Read, long, "Failed", 2, 0),
         (Call::Kind, long, "Failed", 3, 0),
         (Call::List, long, "Failed", 4, 0),
-        (Call::Replace, long, "Failed", 4, 1),
+        (Call::Replace, lost, "Failed", 4, 1),
         (Call::Kind, "gone", "Missing", 4, 1),
         (Call::Replace, "new/deep", "Failed", 4, 2),
         (Call::Replace, "new/b/below", "Failed", 4, 3),
