@@ -7,12 +7,14 @@
 //! two calls, so the store tells no files, and no clause of this file speaks of what they hold.
 //!
 //! Links are followed. A special file counts as a file, and a name in a folder that is not UTF-8 is passed over.
-ghost use Rattle.std.specs.Prelude.{◌≡◌, ◌≤◌, IfOk, vec_len};
+ghost use Rattle.std.specs.Prelude.{◌≡◌, ◌<◌, ◌≤◌, IfOk, IfSome, OnOk, length, vec_len};
+ghost use Rattle.std.specs.Io.KnownBytes.{IsAtEnd};
+ghost use Rattle.jlpkg.specs.Reading.{Follows};
 
 use pkg_world::{
     Bytes, KindAnswer, ListAnswer, Name, Names, NormPath, ReadAnswer, Store, WriteAnswer,
 };
-use std::alloc::Global;
+use std::alloc::{AllocError, Global};
 use std::fs::OpenOptions;
 use std::io::{ErrorKind, Read, Write};
 use std::rt::Files;
@@ -137,25 +139,48 @@ fn read_at<R: Files>(host: &R, alloc: Global, path: &str) -> ReadAnswer {
     }
 }
 
-/// All bytes of a file, or FileTooLarge past the limits.
-fn contents<R: Files>(host: &R, alloc: Global, path: &str) -> io::Result<Vec<u8>>
-    ensures { IfOk result (λ bytes. vec_len bytes ≤ MOST_BYTES) }
-{
+fn contents<R: Files>(host: &R, alloc: Global, path: &str) -> io::Result<Vec<u8>> {
     let mut file = fs::open(host, path)?;
-    let mut buffer = vec![in alloc; 0u8; TURN_BYTES]?;
+    whole(alloc, &mut file)
+}
+
+/// All bytes that a reader still has, or FileTooLarge past the limits.
+fn whole<F: Read>(alloc: Global, reader: &mut F) -> io::Result<Vec<u8>>
+    ensures limit { IfOk result (λ bytes. vec_len bytes ≤ MOST_BYTES) }
+    ensures all { IfOk result (λ bytes. IfSome (F.remaining reader.old) (λ all. bytes.items ≡ all)) }
+{
+    let mut buffer = make_buffer(alloc)?;
     let mut bytes = Vec::new(alloc);
     // One turn more than there may be, which finds the end.
     for _ in 0..=MOST_TURNS {
-        let taken = file.read(buffer.as_mut_slice())?;
-        if taken == 0 {
+        if take_turn(reader, buffer.as_mut_slice(), &mut bytes)? == 0 {
             return Ok(bytes);
         }
-        if taken > MOST_BYTES.saturating_sub(bytes.len()) {
-            break;
-        }
-        bytes.extend_from_slice(&buffer[..taken])?;
     }
     Err(io::Error::from(ErrorKind::FileTooLarge))
+}
+
+/// Room for the bytes of one turn.
+fn make_buffer(alloc: Global) -> Result<Vec<u8>, AllocError>
+    ensures { IfOk result (λ buffer. 0 < vec_len buffer) }
+{
+    vec![in alloc; 0u8; TURN_BYTES]
+}
+
+/// Appends what one read gives, and says how many bytes that were: none at the end alone.
+fn take_turn<F: Read>(reader: &mut F, buffer: &mut [u8], bytes: &mut Vec<u8>) -> io::Result<usize>
+    requires room { 0 < length buffer.old }
+    requires within { vec_len bytes.old ≤ MOST_BYTES }
+    ensures limit { vec_len bytes.new ≤ MOST_BYTES }
+    ensures follows { OnOk result (Follows (F.remaining reader.old) bytes.old.items (F.remaining reader.new) bytes.new.items) }
+    ensures end { IfOk result (λ taken. taken ≡ 0 → IsAtEnd (F.remaining reader.new)) }
+{
+    let taken = reader.read(buffer)?;
+    if taken > MOST_BYTES.saturating_sub(bytes.len()) {
+        return Err(io::Error::from(ErrorKind::FileTooLarge));
+    }
+    bytes.extend_from_slice(&buffer[..taken])?;
+    Ok(taken)
 }
 
 fn kind_at<R: Files>(host: &R, path: &str) -> KindAnswer {
