@@ -38,6 +38,17 @@ impl<T: Drop> Listed<T> {
         }
     }
 
+    /// The list of those items, without spare room.
+    pub fn of_vec(items: Vec<T>) -> Self
+        ensures items { result.items ≡ items.items }
+        ensures spare { result.spare ≡ 0 }
+    {
+        Self {
+            inside: items,
+            room: 0,
+        }
+    }
+
     /// The items, in order.
     pub fn items(&self) -> &[T]
         ensures { result.now ≡ self.now.items }
