@@ -1,5 +1,9 @@
 -- Going over the entries of a manifest: the stanzas so far, and the rest.
-use Rattle.std.proofs.Common.{◌≡◌, List, [], ◌∷◌, ◌++◌, Result, Ok, Err, refl, ap, sym, ◌∙◌, append_assoc}
+use Rattle.std.proofs.Common.{◌≡◌, ◌==◌, List, [], ◌∷◌, ◌++◌, length, String, Global, Result, Ok, Err, refl, ap, sym, ◌∙◌, append_assoc, arith}
+use Rattle.std.proofs.lemmas.Bool.Decides.{nat_tests}
+use Rattle.toml.specs.View.{members_view}
+use Rattle.toml.specs.declared.value.Value.{Value}
+use Rattle.env_maps.specs.Manifest.{is_blank}
 use Rattle.toml_view.specs.declared.refusal.Refusal.{Refusal}
 use Rattle.toml_view.specs.Reading.{chained, mapped}
 use Rattle.env_maps.specs.declared.stanza.Stanza.{Stanza}
@@ -20,3 +24,7 @@ onto_all old new (Err refusal) rest e = cc
 pub onto_none : (reading : Result (List Stanza) Refusal) → onto [] reading ≡ reading
 onto_none (Ok rest) = refl
 onto_none (Err refusal) = refl
+
+pub blank_is : (es : List (String Global × Value)) → is_blank (members_view es) ≡ (length es == 0)
+blank_is [] = refl
+blank_is (e ∷ es) = grind (arith, nat_tests)

@@ -1,6 +1,6 @@
 -- What a manifest says of packages (Pkg, Manifest.toml, format 2.0), and where it lies.
-use Rattle.std.specs.Prelude.{ℕ, Bool, true, false, ◌&&◌, ◌||◌, ◌==◌, if◌then◌else◌, List, [], ◌∷◌, ◌++◌, nat_le, codes, Option, Some, None, Result, Ok, Err}
-use Rattle.std.specs.List.{list_all}
+use Rattle.std.specs.Prelude.{ℕ, Bool, true, false, not, ◌&&◌, ◌||◌, ◌==◌, if◌then◌else◌, List, [], ◌∷◌, ◌++◌, length, drop, nat_le, codes, Option, Some, None, Result, Ok, Err}
+use Rattle.std.specs.List.{list_all, starts_with}
 use Rattle.std.specs.Str.{bytes_eq}
 use Rattle.toml.specs.Data.{Data, Members, no_members, member, as_table}
 use Rattle.toml_view.specs.Reading.{text_of, uuid_of, or_shape, chained, mapped, at, opt, need, list_of, table_at}
@@ -24,14 +24,13 @@ entry_of value = chained entry_of_members (or_shape (as_table value))
 abbrev pub is_digit : ℕ → Bool
 is_digit b = nat_le 48 b && nat_le b 57
 
--- `2.` with digits
-abbrev pub has_minor : List ℕ → Bool
-has_minor (a ∷ b ∷ c ∷ more) = (a == 50) && ((b == 46) && (is_digit c && list_all is_digit more))
-has_minor _ = false
+-- one digit or more
+abbrev pub is_minor : List ℕ → Bool
+is_minor digits = not (length digits == 0) && list_all is_digit digits
 
 -- the format `2`, or `2.` with digits
 abbrev pub is_format_two : List ℕ → Bool
-is_format_two text = bytes_eq text (codes "2") || has_minor text
+is_format_two text = bytes_eq text (codes "2") || (starts_with (λ a b. a == b) text (codes "2.") && is_minor (drop 2 text))
 
 abbrev pub format_of_text : List ℕ → Result (Unit {0}) Refusal
 format_of_text text = or_shape (if is_format_two text then Some tt else None)
@@ -60,7 +59,7 @@ entries_in content = of_bytes entries_of (file_bytes content)
 abbrev pub path_keys : List ℕ → List ℕ
 path_keys name = codes "deps." ++ (name ++ codes ".path")
 
-abbrev pub path_refused : {T : Type 0} → List ℕ → Result T Refusal
+abbrev pub path_refused : List ℕ → Result (Option Path) Refusal
 path_refused name = Err (record { path = Some (path_keys name); flaw = Shape })
 
 -- a stanza's path from the manifest's folder; one that rises above the root is refused

@@ -1,5 +1,6 @@
 //! What a manifest says of packages.
-ghost use Rattle.std.specs.Prelude.{◌≡◌, IfOk, IfErr};
+ghost use Rattle.std.specs.Prelude.{◌≡◌, ◌==◌, ◌&&◌, ◌∷◌, ◌++◌, [], drop, codes, IfOk, IfErr, OnOk};
+ghost use Rattle.std.specs.List.{list_all, starts_with};
 ghost use Rattle.toml.specs.View.{table_view};
 ghost use Rattle.toml_view.specs.Answers.{HasPath, Refuses as StopRefuses};
 ghost use Rattle.pkg_world.specs.Path.{folder_of};
@@ -68,12 +69,21 @@ fn is_format_two(text: &str) -> bool
 }
 
 fn has_minor(text: &[u8]) -> bool
-    ensures { result ≡ spec.has_minor text.now }
+    ensures { result ≡ (starts_with (λ a b. a == b) text.now (codes "2.") && spec.is_minor (drop 2 text.now)) }
 {
-    match text {
-        [b'2', b'.', first, rest @ ..] => is_digit(*first) && rest.iter().all(|b| is_digit(*b)),
-        _ => false,
-    }
+    text.starts_with(b"2.") && is_minor(&text[2..])
+}
+
+fn is_minor(digits: &[u8]) -> bool
+    ensures { result ≡ spec.is_minor digits.now }
+{
+    !digits.is_empty() && are_digits(digits)
+}
+
+fn are_digits(digits: &[u8]) -> bool
+    ensures { result ≡ list_all spec.is_digit digits.now }
+{
+    digits.iter().all(|b| is_digit(*b))
 }
 
 fn is_digit(byte: u8) -> bool
@@ -120,10 +130,11 @@ impl FromTable for Entries {
 }
 
 /// Whether a table has no key.
+#[tactic(auto, using(crate::proofs::Walks::blank_is))]
 fn is_blank(table: &Table) -> bool
     ensures { result ≡ spec.is_blank (table_view table.now) }
 {
-    table.is_empty()
+    table.len() == 0
 }
 
 impl Entries {
@@ -153,8 +164,15 @@ fn push_stanzas(
 {
     for entry in list {
         let stanza = resolved(alloc, folder, name, entry)?;
-        stanzas.push(stanza)?;
+        push_stanza(stanzas, stanza)?;
     }
+    Ok(())
+}
+
+fn push_stanza(stanzas: &mut Vec<Stanza>, stanza: Stanza) -> Result<(), AllocError>
+    ensures { OnOk result (stanzas.new.items ≡ stanzas.old.items ++ stanza ∷ []) }
+{
+    stanzas.push(stanza)?;
     Ok(())
 }
 

@@ -22,7 +22,7 @@ pub(crate) fn manifest_path<S: Store>(
     file: &NormPath,
     project: &Project,
 ) -> Result<NormPath, EnvFault>
-    ensures told { IfSome (S.files store.old) (λ all. Loads (spec.at_file file.now (caused (path_meant all file.now project.now))) result) }
+    ensures told { IfSome (S.files store.old) (λ all. Loads (at_file file.now (caused (path_meant all file.now project.now))) result) }
     ensures fault { IfErr result (ReadFaultRose (S.read_faults store.old) (S.read_faults store.new)) }
     ensures files { S.files store.new ≡ S.files store.old }
     ensures later { S.read_faults store.old ≤ S.read_faults store.new }
@@ -41,7 +41,7 @@ fn named_manifest(
     folder: &NormPath,
     text: &Name,
 ) -> Result<NormPath, EnvFault>
-    ensures told { Loads (spec.at_file file.now (caused (apart_or_refused file.now (joined folder.now text.now)))) result }
+    ensures told { Loads (at_file file.now (caused (apart_or_refused file.now (joined folder.now text.now)))) result }
     ensures fault { IfErr result NoReadFault }
 {
     match NormPath::join(alloc, folder, text.as_str()) {
@@ -53,7 +53,7 @@ fn named_manifest(
 
 /// A manifest's path that is not the project file's own.
 fn apart_from(alloc: Global, file: &NormPath, path: NormPath) -> Result<NormPath, EnvFault>
-    ensures told { Loads (spec.at_file file.now (caused (apart_or_refused file.now (Some path)))) result }
+    ensures told { Loads (at_file file.now (caused (apart_or_refused file.now (Some path)))) result }
     ensures fault { IfErr result NoReadFault }
 {
     if path.as_str() == file.as_str() {
