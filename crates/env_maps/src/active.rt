@@ -103,11 +103,7 @@ fn version_folder(alloc: Global, julia: &[u32; 3]) -> Result<String, AllocError>
 }
 
 /// The project file of a folder.
-fn file_in<S: Store>(
-    alloc: Global,
-    store: &mut S,
-    folder: &NormPath,
-) -> Result<NormPath, EnvFault>
+fn file_in<S: Store>(alloc: Global, store: &mut S, folder: &NormPath) -> Result<NormPath, EnvFault>
     ensures path { IfSome (S.files store.old) (λ all. IfOk result (λ path. spec.file_in all folder.now ≡ path)) }
     ensures refused { IfErr result (OnlyReadFault (S.read_faults store.old) (S.read_faults store.new)) }
     ensures files { S.files store.new ≡ S.files store.old }

@@ -9,8 +9,8 @@ ghost use Rattle.env_maps.specs.Answers.{Loads};
 ghost use Rattle.env_maps.specs.Views.{LoadsStanzas};
 ghost use Rattle.env_maps.specs.Faults.{OnlyReadFault, NoReadFault, ReadFaultRose};
 
-use crate::fault::EnvFault;
 use crate::entry::{source_beside, stanza_entry};
+use crate::fault::EnvFault;
 use crate::file::{halted, of_file};
 use crate::id::{Context, Id};
 use crate::manifest::Entries;

@@ -97,9 +97,12 @@ pub(crate) fn halted(stop: Stop) -> Halt
     ensures { HaltsAs stop result }
 {
     match stop {
-        Stop::Refused(Refusal {
-            path: Some(path), ..
-        }) => Halt::Refused(Cause::BadShape(path)),
+        Stop::Refused(
+            Refusal {
+                path: Some(path),
+                ..
+            },
+        ) => Halt::Refused(Cause::BadShape(path)),
         Stop::Refused(Refusal { path: None, .. }) => unreachable!(),
         Stop::Memory => Halt::Memory,
     }

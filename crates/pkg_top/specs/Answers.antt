@@ -92,6 +92,12 @@ abbrev pub IsRefusal : Status → Type 0
 IsRefusal StatusOk = ⊥
 IsRefusal _ = Unit {0}
 
+-- a refusal before anything is printed
+abbrev pub IsUnprinted : Status → Type 0
+IsUnprinted StatusOk = ⊥
+IsUnprinted SinkFault = ⊥
+IsUnprinted _ = Unit {0}
+
 -- how printing a line ends
 abbrev pub IsPrinted : List ℕ → Option (List ℕ) → Option (List ℕ) → Status → Type 0
 IsPrinted line old new StatusOk = new ≡ option_map (λ text. text ++ line) old

@@ -1,5 +1,5 @@
 -- The place that the texts of an environment give. (own rule)
-use Rattle.std.specs.Prelude.{◌≡◌, ℕ, ◌==◌, if◌then◌else◌, List, [], ◌∷◌, ◌++◌, length, codes, Option, Some, None, IsSome, option_map, Result, Ok, Err, MatchResult}
+use Rattle.std.specs.Prelude.{◌≡◌, ℕ, ◌==◌, if◌then◌else◌, List, [], ◌∷◌, ◌++◌, length, codes, Option, Some, None, IsSome, IsOk, Result, Ok, Err, MatchResult}
 use Rattle.pkg_world.specs.Path.{Path, joined, pieces_at}
 use Rattle.pkg_world.specs.declared.place.Place.{Place}
 use Rattle.pkg_top.specs.declared.place.PlaceFault.{PlaceFault}
@@ -21,15 +21,18 @@ or_text text (Some path) = Ok path
 abbrev pub path_from : Path → List ℕ → Placed Path
 path_from base text = or_text text (joined base text)
 
-abbrev pub with_first : Path → Placed (List Path) → Placed (List Path)
-with_first path (Ok more) = Ok (path ∷ more)
-with_first path (Err text) = Err text
+abbrev pub after : List Path → Placed (List Path) → Placed (List Path)
+after found (Ok more) = Ok (found ++ more)
+after found (Err text) = Err text
 
--- the depots of a depot path's pieces; empty pieces are dropped
+-- the depot of one piece of a depot path; an empty piece has none
+abbrev pub depot_of : Path → List ℕ → Placed (List Path)
+depot_of cwd piece = if length piece == 0 then Ok [] else then_placed (path_from cwd piece) (λ path. Ok (path ∷ []))
+
+-- the depots of a depot path's pieces, in order
 abbrev pub depots_of : Path → List (List ℕ) → Placed (List Path)
 depots_of cwd [] = Ok []
-depots_of cwd (piece ∷ more) =
-    if length piece == 0 then depots_of cwd more else then_placed (path_from cwd piece) (λ path. with_first path (depots_of cwd more))
+depots_of cwd (piece ∷ more) = then_placed (depot_of cwd piece) (λ found. after found (depots_of cwd more))
 
 -- without a depot path `.julia` in the home folder is the one depot, and without a home folder there is none
 abbrev pub home_depot : Path → Option (List ℕ) → Placed (List Path)
@@ -79,7 +82,7 @@ pub record IsPlaceOf (place : Place) (paths : Placed Paths) (load_path project j
 
 abbrev pub RefusesPlace : Placed Paths → Option (List ℕ) → PlaceFault → Type 0
 RefusesPlace paths julia (BadPath text) = paths ≡ Err text
-RefusesPlace paths julia (BadJulia place) = ((found : Paths) × (paths ≡ Ok found)) × IsSome julia × (place ≡ 0)
+RefusesPlace paths julia (BadJulia place) = IsOk paths × IsSome julia × (place ≡ 0)
 RefusesPlace paths julia Memory = Unit {0}
 
 abbrev pub GivesPlace : Result Place PlaceFault → Placed Paths → Option (List ℕ) → Option (List ℕ) → Option (List ℕ) → Type 0

@@ -1,9 +1,9 @@
 //! What is refused by words and place alone.
-ghost use Rattle.std.specs.Prelude.{◌≡◌, Some};
+ghost use Rattle.std.specs.Prelude.{◌≡◌, Some, IfErr};
 ghost use Rattle.std.specs.Option.{option_copied};
 ghost use Rattle.pkg_top.specs.Due as spec;
 ghost use Rattle.pkg_top.specs.Seen.{AsksFor, texts};
-ghost use Rattle.pkg_top.specs.Answers.{RefusesEarly};
+ghost use Rattle.pkg_top.specs.Answers.{RefusesEarly, IsUnprinted};
 
 use crate::status::Status;
 use crate::words::{Asked, read_words};
@@ -12,7 +12,8 @@ use std::alloc::Global;
 
 /// The name that `which` is asked for, or what is refused by words and place alone.
 pub(crate) fn asked_name(alloc: Global, words: &[String], place: &Place) -> Result<Name, Status>
-    ensures { AsksFor place.now (texts words.now) result }
+    ensures asked { AsksFor place.now (texts words.now) result }
+    ensures unprinted { IfErr result IsUnprinted }
 {
     match read_words(alloc, words) {
         Ok(Asked::Which(name)) => match unbuilt_place(place) {
@@ -26,7 +27,8 @@ pub(crate) fn asked_name(alloc: Global, words: &[String], place: &Place) -> Resu
 }
 
 fn not_built(alloc: Global, word: &str) -> Status
-    ensures { RefusesEarly (Some (Status.NotBuilt word.now)) result }
+    ensures refusal { RefusesEarly (Some (Status.NotBuilt word.now)) result }
+    ensures unprinted { IsUnprinted result }
 {
     match Text::of(alloc, word) {
         Ok(word) => Status::NotBuilt(word),

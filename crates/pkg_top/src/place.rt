@@ -1,5 +1,5 @@
 //! The place of a command, from the texts of its environment.
-ghost use Rattle.std.specs.Prelude.{◌≡◌, IfOk, Some, Ok, Err, []};
+ghost use Rattle.std.specs.Prelude.{◌≡◌, IfOk};
 ghost use Rattle.std.specs.Option.{option_copied};
 ghost use Rattle.pkg_top.specs.Placing.{Places, paths_from, paths_of, path_from, depots_from as depots_meant, depots_of, home_depot, stdlib_from as stdlib_meant, GivesPlace};
 ghost use Rattle.pkg_world.specs.Path.{pieces_at};
@@ -86,7 +86,12 @@ fn path_at(alloc: Global, base: &NormPath, text: &str) -> Result<NormPath, Place
     }
 }
 
-fn depots_from(alloc: Global, cwd: &NormPath, home: Option<&str>, depots: Option<&str>) -> Result<NormPaths, PlaceFault>
+fn depots_from(
+    alloc: Global,
+    cwd: &NormPath,
+    home: Option<&str>,
+    depots: Option<&str>,
+) -> Result<NormPaths, PlaceFault>
     ensures { Places items_of result (depots_meant cwd.now (option_copied home.entry) (option_copied depots.entry)) }
 {
     match depots {
@@ -107,6 +112,7 @@ fn home_depots(alloc: Global, cwd: &NormPath, home: Option<&str>) -> Result<Norm
     Ok(depots)
 }
 
+#[tactic(auto, using(crate::proofs::Depots::after_all, crate::proofs::Depots::after_last, crate::proofs::Depots::after_none))]
 fn split_depots(alloc: Global, cwd: &NormPath, text: &str) -> Result<NormPaths, PlaceFault>
     ensures { Places items_of result (depots_of cwd.now (pieces_at 58 text.now)) }
 {
@@ -127,7 +133,12 @@ fn split_depots(alloc: Global, cwd: &NormPath, text: &str) -> Result<NormPaths, 
 }
 
 /// Appends the depot of one piece of a depot path, none for an empty piece.
-fn push_depot(alloc: Global, depots: &mut NormPaths, cwd: &NormPath, piece: &str) -> Result<(), PlaceFault>
+fn push_depot(
+    alloc: Global,
+    depots: &mut NormPaths,
+    cwd: &NormPath,
+    piece: &str,
+) -> Result<(), PlaceFault>
     ensures { PushesDepot depots.old.items depots.new.items cwd.now piece.now result }
 {
     if piece.is_empty() {
@@ -138,7 +149,11 @@ fn push_depot(alloc: Global, depots: &mut NormPaths, cwd: &NormPath, piece: &str
     Ok(())
 }
 
-fn stdlib_from(alloc: Global, cwd: &NormPath, text: Option<&str>) -> Result<Option<NormPath>, PlaceFault>
+fn stdlib_from(
+    alloc: Global,
+    cwd: &NormPath,
+    text: Option<&str>,
+) -> Result<Option<NormPath>, PlaceFault>
     ensures { Places itself result (stdlib_meant cwd.now (option_copied text.entry)) }
 {
     match text {

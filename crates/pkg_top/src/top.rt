@@ -3,7 +3,7 @@ ghost use Rattle.std.specs.Prelude.{◌≡◌, ◌≤◌, IfSome, IfErr, string_
 ghost use Rattle.pkg_top.specs.Due.{due as answer_due, early_due};
 ghost use Rattle.pkg_top.specs.Lines.{status_line as line_of};
 ghost use Rattle.pkg_top.specs.Seen.{texts};
-ghost use Rattle.pkg_top.specs.Answers.{Answers, AnswersTimely, IsTimely, ReadFaultRose, SinkFaultRose, Prints, PrintsOnlyAtOk, IsPrinted, IsRefusal, Tells, TellsLine};
+ghost use Rattle.pkg_top.specs.Answers.{Answers, AnswersTimely, IsTimely, ReadFaultRose, SinkFaultRose, Prints, PrintsOnlyAtOk, IsPrinted, IsRefusal, IsUnprinted, Tells, TellsLine};
 
 use crate::early::asked_name;
 use crate::status::{Ended, Status, Told, status_line};
@@ -53,7 +53,7 @@ fn answer<S: Store>(
     ensures answer { IfSome (S.files store.old) (λ all. Answers (answer_due all place.now (texts words.now)) result) }
     ensures timely { AnswersTimely (early_due place.now (texts words.now)) result }
     ensures fault { IfErr result (ReadFaultRose (S.read_faults store.old) (S.read_faults store.new)) }
-    ensures refusal { IfErr result IsRefusal }
+    ensures unprinted { IfErr result IsUnprinted }
     ensures files { S.files store.new ≡ S.files store.old }
     ensures later { S.read_faults store.old ≤ S.read_faults store.new }
     ensures other { S.write_faults store.new ≡ S.write_faults store.old }

@@ -5,7 +5,7 @@ ghost use Rattle.env_maps.specs.Maps.{path_of, env_in};
 ghost use Rattle.pkg_top.specs.Import.{by_path, by_identity, import as import_meant};
 ghost use Rattle.pkg_top.specs.Due.{which_due, which_of, told_import};
 ghost use Rattle.pkg_top.specs.Lines.{found_line as line_of_found};
-ghost use Rattle.pkg_top.specs.Answers.{Answers, Refuses, ReadFaultRose, NoFault, IsLate};
+ghost use Rattle.pkg_top.specs.Answers.{Answers, Refuses, ReadFaultRose, NoFault, IsLate, IsUnprinted};
 
 use crate::status::{Status, found_line};
 use env_maps::{Context, EnvFault, Id, ProjectEnv, active_project};
@@ -22,6 +22,7 @@ pub(crate) fn which<S: Store>(
 ) -> Result<String, Status>
     ensures answer { IfSome (S.files store.old) (λ all. Answers (which_due all place.now name.now) result) }
     ensures late { IfErr result IsLate }
+    ensures unprinted { IfErr result IsUnprinted }
     ensures fault { IfErr result (ReadFaultRose (S.read_faults store.old) (S.read_faults store.new)) }
     ensures files { S.files store.new ≡ S.files store.old }
     ensures later { S.read_faults store.old ≤ S.read_faults store.new }
@@ -44,6 +45,7 @@ fn which_in<S: Store>(
 ) -> Result<String, Status>
     ensures answer { IfSome (S.files store.old) (λ all. Answers (which_of all name.now (env_in all file.now)) result) }
     ensures late { IfErr result IsLate }
+    ensures unprinted { IfErr result IsUnprinted }
     ensures fault { IfErr result (ReadFaultRose (S.read_faults store.old) (S.read_faults store.new)) }
     ensures files { S.files store.new ≡ S.files store.old }
     ensures later { S.read_faults store.old ≤ S.read_faults store.new }
@@ -58,9 +60,15 @@ fn which_in<S: Store>(
 }
 
 /// The import of a name from the top level.
-fn import<S: Store>(alloc: Global, name: &Name, env: &ProjectEnv, store: &mut S) -> Result<String, Status>
+fn import<S: Store>(
+    alloc: Global,
+    name: &Name,
+    env: &ProjectEnv,
+    store: &mut S,
+) -> Result<String, Status>
     ensures answer { IfSome (S.files store.old) (λ all. Answers (told_import name.now (import_meant all env.now name.now)) result) }
     ensures late { IfErr result IsLate }
+    ensures unprinted { IfErr result IsUnprinted }
     ensures fault { IfErr result (ReadFaultRose (S.read_faults store.old) (S.read_faults store.new)) }
     ensures files { S.files store.new ≡ S.files store.old }
     ensures later { S.read_faults store.old ≤ S.read_faults store.new }
@@ -76,6 +84,7 @@ fn import<S: Store>(alloc: Global, name: &Name, env: &ProjectEnv, store: &mut S)
 fn no_identity(alloc: Global, name: &Name) -> Status
     ensures refusal { Refuses (Err (Status.NoIdentity name.now)) result }
     ensures late { IsLate result }
+    ensures unprinted { IsUnprinted result }
     ensures fault { NoFault result }
 {
     match name.copy(alloc) {
@@ -94,6 +103,7 @@ fn import_built<S: Store>(
 ) -> Result<String, Status>
     ensures answer { IfSome (S.files store.old) (λ all. Answers (told_import name.now (by_identity all env.now (Some id.now))) result) }
     ensures late { IfErr result IsLate }
+    ensures unprinted { IfErr result IsUnprinted }
     ensures fault { IfErr result (ReadFaultRose (S.read_faults store.old) (S.read_faults store.new)) }
     ensures files { S.files store.new ≡ S.files store.old }
     ensures later { S.read_faults store.old ≤ S.read_faults store.new }
@@ -109,6 +119,7 @@ fn import_built<S: Store>(
 fn unbuilt_stanza(alloc: Global) -> Status
     ensures refusal { Refuses (Err (Status.NotBuilt (codes "stanza"))) result }
     ensures late { IsLate result }
+    ensures unprinted { IsUnprinted result }
     ensures fault { NoFault result }
 {
     match Text::of(alloc, "stanza") {
@@ -117,9 +128,16 @@ fn unbuilt_stanza(alloc: Global) -> Status
     }
 }
 
-fn import_identity<S: Store>(alloc: Global, name: &Name, env: &ProjectEnv, id: &Id, store: &mut S) -> Result<String, Status>
+fn import_identity<S: Store>(
+    alloc: Global,
+    name: &Name,
+    env: &ProjectEnv,
+    id: &Id,
+    store: &mut S,
+) -> Result<String, Status>
     ensures answer { IfSome (S.files store.old) (λ all. Answers (told_import name.now (by_path all id.now (path_of all env.now id.now))) result) }
     ensures late { IfErr result IsLate }
+    ensures unprinted { IfErr result IsUnprinted }
     ensures fault { IfErr result (ReadFaultRose (S.read_faults store.old) (S.read_faults store.new)) }
     ensures files { S.files store.new ≡ S.files store.old }
     ensures later { S.read_faults store.old ≤ S.read_faults store.new }
@@ -134,9 +152,16 @@ fn import_identity<S: Store>(alloc: Global, name: &Name, env: &ProjectEnv, id: &
     }
 }
 
-fn import_path<S: Store>(alloc: Global, name: &Name, id: &Id, path: NormPath, store: &mut S) -> Result<String, Status>
+fn import_path<S: Store>(
+    alloc: Global,
+    name: &Name,
+    id: &Id,
+    path: NormPath,
+    store: &mut S,
+) -> Result<String, Status>
     ensures answer { IfSome (S.files store.old) (λ all. Answers (told_import name.now (by_path all id.now (Some path))) result) }
     ensures late { IfErr result IsLate }
+    ensures unprinted { IfErr result IsUnprinted }
     ensures fault { IfErr result (ReadFaultRose (S.read_faults store.old) (S.read_faults store.new)) }
     ensures files { S.files store.new ≡ S.files store.old }
     ensures later { S.read_faults store.old ≤ S.read_faults store.new }

@@ -52,13 +52,22 @@ fn is_later_command(command: &str) -> bool
 fn is_reading_command(command: &str) -> bool
     ensures { result ≡ (bytes_eq command.now (codes "offers") || (bytes_eq command.now (codes "check") || (bytes_eq command.now (codes "status") || (bytes_eq command.now (codes "verify") || bytes_eq command.now (codes "make"))))) }
 {
-    command == "offers" || command == "check" || command == "status" || command == "verify" || command == "make"
+    command == "offers"
+        || command == "check"
+        || command == "status"
+        || command == "verify"
+        || command == "make"
 }
 
 fn is_writing_command(command: &str) -> bool
     ensures { result ≡ (bytes_eq command.now (codes "resolve") || (bytes_eq command.now (codes "add") || (bytes_eq command.now (codes "rm") || (bytes_eq command.now (codes "pin") || (bytes_eq command.now (codes "free") || bytes_eq command.now (codes "develop")))))) }
 {
-    command == "resolve" || command == "add" || command == "rm" || command == "pin" || command == "free" || command == "develop"
+    command == "resolve"
+        || command == "add"
+        || command == "rm"
+        || command == "pin"
+        || command == "free"
+        || command == "develop"
 }
 
 /// The words after `which`.
@@ -159,7 +168,5 @@ fn is_name(word: &str) -> bool
 fn has_name_bytes(word: &str) -> bool
     ensures { result ≡ list_all (λ b. not (b == 47 || (b == 61 || (b == 64 || b == 32)))) word.now }
 {
-    word.as_bytes()
-        .iter()
-        .all(|b| !(*b == b'/' || (*b == b'=' || (*b == b'@' || *b == b' '))))
+    word.as_bytes().iter().all(|b| !(*b == b'/' || (*b == b'=' || (*b == b'@' || *b == b' '))))
 }
