@@ -14,6 +14,7 @@ mod store;
 mod sure;
 mod text;
 mod tree;
+mod writing;
 
 pub use cause::{Cause, LimitKind};
 pub use list::{Bytes, Ids, Listed, Names, NormPaths, States, TextList};
@@ -26,3 +27,4 @@ pub use sink::{PutAnswer, Sink};
 pub use store::{KindAnswer, ListAnswer, ReadAnswer, Store, WriteAnswer};
 pub use sure::{SureSink, SureStore};
 pub use text::{Duplicate, Name, Text};
+pub use writing::writing_sets_one_path;
