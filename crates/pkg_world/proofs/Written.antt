@@ -35,7 +35,7 @@ put_later Equal r more set old node apart e = rw (apart refl, e)
 
 find_put_at : (o : Ordering) (m n : List ℕ) (node : Node) (other : List ℕ) (old : Node) (more : Files) → cmp n other ≡ o → find m (insert n node more) ≡ match_ordering (cmp m n) (find m more) (Some node) (find m more)
     → find m (match_ordering o (entry n node (entry other old more)) (entry other node more) (entry other old (insert n node more)))
-        ≡ match_ordering (cmp m n) (find m (entry other old more)) (Some node) (find m (entry other old more))
+    ≡ match_ordering (cmp m n) (find m (entry other old more)) (Some node) (find m (entry other old more))
 find_put_at Less m n node other old more is ih = refl
 find_put_at Equal m n node other old more is ih =
     let back : cmp other n ≡ Equal = tied_back nat_list_cmp_total n other is in
@@ -110,7 +110,7 @@ told_elsewhere b [] (m ∷ q) before h = refl
 told_elsewhere b (n ∷ p) [] before h = absurd (h 0 refl)
 told_elsewhere b (n ∷ p) (m ∷ q) before h =
     elsewhere_at (cmp m n) before _ (λ same. told_elsewhere b p q before (λ k e.
-        let whole : m ∷ q ≡ n ∷ take k p = rw (same_name m n same, e) in h (suc k) whole))
+    let whole : m ∷ q ≡ n ∷ take k p = rw (same_name m n same, e) in h (suc k) whole))
 
 root_folder : (slot : Option Node) (new : Files) → option_and_then files_in slot ≡ Some new → slot ≡ Some (folder new)
 root_folder None new e = cc

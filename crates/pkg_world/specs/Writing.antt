@@ -7,8 +7,8 @@ use Rattle.pkg_world.specs.Tree.{Files, Content, bytes, a_folder, holds, a_file,
 abbrev pub SetsOnePath : Path → List ℕ → Files → Files → Type 0
 SetsOnePath path b old new =
     (holds path new ≡ bytes b)
-        × ((k : ℕ) → k < length path → holds (take k path) new ≡ a_folder)
-        × ((other : Path) → ((k : ℕ) → other ≡ take k path → ⊥) → holds other new ≡ holds other old)
+    × ((k : ℕ) → k < length path → holds (take k path) new ≡ a_folder)
+    × ((other : Path) → ((k : ℕ) → other ≡ take k path → ⊥) → holds other new ≡ holds other old)
 
 -- a folder is there, or a file stands in the way
 abbrev pub IsBlocked : Path → Files → Type 0

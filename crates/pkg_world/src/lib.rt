@@ -12,6 +12,8 @@ mod place;
 mod sink;
 mod store;
 mod sure;
+#[cfg(test)]
+mod tests;
 mod text;
 mod tree;
 mod writing;

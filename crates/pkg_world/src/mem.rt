@@ -7,7 +7,7 @@ ghost use Rattle.pkg_world.specs.Held.{mem_files, mem_text, up, counted, is_due,
 use crate::path::NormPath;
 use crate::sink::{PutAnswer, Sink};
 use crate::store::{KindAnswer, ListAnswer, ReadAnswer, Store, WriteAnswer};
-use crate::tree::{kind_of, list_folder, put_file, put_folder, read_file, write_file, Entries};
+use crate::tree::{Entries, kind_of, list_folder, put_file, put_folder, read_file, write_file};
 use std::alloc::{AllocError, Global};
 use std::collections::BTreeMap;
 
@@ -93,7 +93,12 @@ impl MemStore {
 
     /// Sets a path to the bytes, adds missing parent folders and leaves all else. No parent may be a file, nor the
     /// path a folder. The one error is want of memory, and then all is as before.
-    pub fn put_file(&mut self, alloc: Global, path: &NormPath, bytes: &[u8]) -> Result<(), AllocError>
+    pub fn put_file(
+        &mut self,
+        alloc: Global,
+        path: &NormPath,
+        bytes: &[u8],
+    ) -> Result<(), AllocError>
         requires { IsSome (with_leaf (a_file bytes.now) path.now (mem_files self.old)) }
         ensures ok { OnOk result (with_leaf (a_file bytes.now) path.now (mem_files self.old) ≡ Some (mem_files self.new)) }
         ensures err { OnErr result (mem_files self.new ≡ mem_files self.old) }

@@ -6,5 +6,4 @@ ghost use Rattle.pkg_world.specs.Writing.{WritingLaw, BlockedLaw};
 pub fn writing_sets_one_path()
     ensures sets { WritingLaw }
     ensures blocked { BlockedLaw }
-{
-}
+{}
