@@ -6,3 +6,4 @@ pub mod Tree
 pub mod Outside
 pub mod Stored
 pub mod Held
+pub mod Writing

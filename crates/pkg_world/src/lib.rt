@@ -12,8 +12,11 @@ mod place;
 mod sink;
 mod store;
 mod sure;
+#[cfg(test)]
+mod tests;
 mod text;
 mod tree;
+mod writing;
 
 pub use cause::{Cause, LimitKind};
 pub use list::{Bytes, Ids, Listed, Names, NormPaths, States, TextList};
@@ -26,3 +29,4 @@ pub use sink::{PutAnswer, Sink};
 pub use store::{KindAnswer, ListAnswer, ReadAnswer, Store, WriteAnswer};
 pub use sure::{SureSink, SureStore};
 pub use text::{Duplicate, Name, Text};
+pub use writing::writing_sets_one_path;
