@@ -28,7 +28,7 @@ pub trait Reader {
 }
 
 /// The refusal of a value of another kind.
-pub(crate) fn other_shape() -> Stop
+pub fn other_shape() -> Stop
     ensures { result ≡ Stop.Refused shape }
 {
     Stop::Refused(Refusal {
