@@ -15,3 +15,9 @@ abbrev pub ReadFaultRose : ℕ → ℕ → EnvFault → Type 0
 ReadFaultRose before now (ReadFault path) = Rose before now
 ReadFaultRose before now (BadFile path cause) = Unit {0}
 ReadFaultRose before now Memory = Unit {0}
+
+-- no failed read
+abbrev pub NoReadFault : EnvFault → Type 0
+NoReadFault (ReadFault path) = ⊥
+NoReadFault (BadFile path cause) = Unit {0}
+NoReadFault Memory = Unit {0}

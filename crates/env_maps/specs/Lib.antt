@@ -4,3 +4,4 @@ pub mod Seen
 pub mod Project
 pub mod Maps
 pub mod Answers
+pub mod Owns

@@ -3,7 +3,12 @@ use Rattle.std.specs.Prelude.{ℕ, Bool, false, ◌&&◌, if◌then◌else◌, L
 use Rattle.std.specs.Str.{bytes_eq}
 use Rattle.pkg_world.specs.Path.{Path, joined, folder_of}
 use Rattle.env_maps.specs.declared.id.Id.{Id}
-use Rattle.env_maps.specs.declared.project.Project.{Project}
+use Rattle.env_maps.specs.Project.{Project}
+
+-- a project and where its file is, or would be
+pub record Env : Type 0 where
+  pub file : Path
+  pub project : Project
 
 -- the identity of the project's own package, where the file has both name and identifier
 abbrev pub own_of : Option (List ℕ) → Option (List ℕ) → Option Id
@@ -20,8 +25,8 @@ if_named name None = None
 if_named name (Some id) = if bytes_eq id.name name then Some id else None
 
 -- names to identities: the project's own name
-abbrev pub root_of : Project → List ℕ → Option Id
-root_of project name = if_named name (own project)
+abbrev pub root_of : Env → List ℕ → Option Id
+root_of env name = if_named name (own env.project)
 
 -- two identifiers, or none, that are the same
 abbrev pub same_uuid : Option (List ℕ) → Option (List ℕ) → Bool
@@ -38,5 +43,5 @@ abbrev pub source_text : List ℕ → List ℕ
 source_text name = codes "src/" ++ (name ++ codes ".jl")
 
 -- identities to paths: the project's own package has `src/X.jl` beside the project file
-abbrev pub path_of : Path → Project → Id → Option Path
-path_of file project id = if is_identity id (own project) then joined (folder_of file) (source_text id.name) else None
+abbrev pub path_of : Env → Id → Option Path
+path_of env id = if is_identity id (own env.project) then joined (folder_of env.file) (source_text id.name) else None

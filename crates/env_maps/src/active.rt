@@ -24,8 +24,8 @@ enum Active {
 ///
 /// Errors: ReadFault, where the store can't tell what is there, and want of memory.
 pub fn active_project<S: Store>(
-    store: &mut S,
     alloc: Global,
+    store: &mut S,
     place: &Place,
 ) -> Result<NormPath, EnvFault>
     ensures path { IfSome (S.files store.old) (λ all. IfOk result (λ path. spec.active_file all place.now ≡ path)) }
@@ -35,7 +35,7 @@ pub fn active_project<S: Store>(
     ensures other { S.write_faults store.new ≡ S.write_faults store.old }
 {
     match named_by(alloc, place)? {
-        Active::InFolder(folder) => file_in(store, alloc, &folder),
+        Active::InFolder(folder) => file_in(alloc, store, &folder),
         Active::TheFile(path) => Ok(path),
     }
 }
@@ -104,8 +104,8 @@ fn version_folder(alloc: Global, julia: &[u32; 3]) -> Result<String, AllocError>
 
 /// The project file of a folder.
 fn file_in<S: Store>(
-    store: &mut S,
     alloc: Global,
+    store: &mut S,
     folder: &NormPath,
 ) -> Result<NormPath, EnvFault>
     ensures path { IfSome (S.files store.old) (λ all. IfOk result (λ path. spec.file_in all folder.now ≡ path)) }

@@ -2,11 +2,13 @@
 #![tactic(auto)]
 
 mod active;
+mod environment;
 mod fault;
 mod halt;
 mod id;
 mod project;
 
 pub use active::active_project;
+pub use environment::ProjectEnv;
 pub use fault::EnvFault;
 pub use id::{Context, Id};

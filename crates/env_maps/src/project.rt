@@ -1,22 +1,55 @@
 //! What a project file says of names.
 ghost use Rattle.std.specs.Prelude.{◌≡◌, codes, Some};
 ghost use Rattle.toml.specs.View.{table_view};
+ghost use Rattle.uuid.specs.Text.{parsed};
 ghost use Rattle.toml_view.specs.Reading.{opt, text_of};
 ghost use Rattle.env_maps.specs.Project as spec;
-ghost use Rattle.env_maps.specs.Project.{caused, uuid_of as uuid_meant};
+ghost use Rattle.env_maps.specs.Project.{caused, opt_uuid};
 ghost use Rattle.env_maps.specs.Answers.{Reads};
+ghost use Rattle.env_maps.specs.Owns.{OwnGives};
 
 use crate::halt::Halt;
 use pkg_world::{Cause, Name, Text};
 use std::alloc::Global;
+use std::marker::Model;
 use toml_view::{KeyFault, Table, ViewFault, opt_text, view};
 use uuid::Uuid;
 
 /// What a project file says of names.
 #[derive(Debug, Drop)]
 pub(crate) struct Project {
-    pub(crate) name: Option<Name>,
-    pub(crate) uuid: Option<Uuid>,
+    name: Option<Name>,
+    uuid: Option<Uuid>,
+}
+
+impl Project {
+    /// What a file that isn't there says.
+    pub(crate) fn none() -> Self
+        ensures { result ≡ spec.no_project }
+    {
+        Self {
+            name: None,
+            uuid: None,
+        }
+    }
+
+    /// The name, where the project has both name and identifier.
+    pub(crate) fn own(&self) -> Option<(&Name, Uuid)>
+        ensures { OwnGives self.now result }
+    {
+        match (&self.name, &self.uuid) {
+            (Some(name), Some(uuid)) => Some((name, *uuid)),
+            _ => None,
+        }
+    }
+}
+
+impl Model for Project {
+    ghost use Rattle.env_maps.specs.Project.{Project};
+
+    ghost Value = { Project };
+
+    ghost view = { λ a. record { name = a.name; uuid = a.uuid } };
 }
 
 /// The project of a file's bytes.
@@ -51,15 +84,25 @@ fn name_of(alloc: Global, table: &Table) -> Result<Option<Name>, Halt>
 }
 
 fn uuid_of(alloc: Global, table: &Table) -> Result<Option<Uuid>, Halt>
-    ensures { Reads result (caused (opt uuid_meant (codes "uuid") (table_view table.now))) }
+    ensures { Reads result (caused (opt_uuid (codes "uuid") (table_view table.now))) }
 {
     match opt_text(alloc, table, "uuid") {
-        Ok(Some(text)) => match Uuid::parse_str(text) {
-            Ok(uuid) => Ok(Some(uuid)),
-            Err(_) => Err(Halt::Refused(Cause::BadShape(Text::of(alloc, "uuid")?))),
+        Ok(Some(text)) => match parse_uuid(text) {
+            Some(uuid) => Ok(Some(uuid)),
+            None => Err(Halt::Refused(Cause::BadShape(Text::of(alloc, "uuid")?))),
         },
         Ok(None) => Ok(None),
         Err(KeyFault::BadShape(path)) => Err(Halt::Refused(Cause::BadShape(path))),
         Err(KeyFault::Memory) => Err(Halt::Memory),
+    }
+}
+
+/// The identifier that a text spells (RFC 9562).
+fn parse_uuid(text: &str) -> Option<Uuid>
+    ensures { result ≡ parsed text.now }
+{
+    match Uuid::parse_str(text) {
+        Ok(uuid) => Some(uuid),
+        Err(_) => None,
     }
 }

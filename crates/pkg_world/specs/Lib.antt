@@ -4,3 +4,5 @@ pub mod Path
 pub mod Steps
 pub mod Tree
 pub mod Outside
+pub mod Stored
+pub mod Held

@@ -34,10 +34,14 @@ abbrev pub onto_first : ℕ → List (List ℕ) → List (List ℕ)
 onto_first b [] = (b ∷ []) ∷ []
 onto_first b (piece ∷ more) = (b ∷ piece) ∷ more
 
--- what stands between the slashes of a text, one piece more than there are slashes
+-- what stands between the marks of a text, one piece more than there are marks
+abbrev pub pieces_at : ℕ → List ℕ → List (List ℕ)
+pieces_at mark [] = [] ∷ []
+pieces_at mark (b ∷ bs) = if b == mark then [] ∷ pieces_at mark bs else onto_first b (pieces_at mark bs)
+
+-- what stands between the slashes
 abbrev pub pieces : List ℕ → List (List ℕ)
-pieces [] = [] ∷ []
-pieces (b ∷ bs) = if b == 47 then [] ∷ pieces bs else onto_first b (pieces bs)
+pieces = pieces_at 47
 
 -- the path above; the root has none
 abbrev pub parent : Path → Option Path

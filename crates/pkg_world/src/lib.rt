@@ -4,18 +4,25 @@
 
 mod cause;
 mod list;
+mod mem;
 mod named;
 mod path;
+mod pieces;
 mod place;
 mod sink;
 mod store;
+mod sure;
 mod text;
+mod tree;
 
 pub use cause::{Cause, LimitKind};
 pub use list::{Bytes, Ids, Listed, Names, NormPaths, States, TextList};
+pub use mem::{MemSink, MemStore, PutFail, StoreCall};
 pub use named::{NameIds, Named};
 pub use path::{NormPath, PathFault};
+pub use pieces::first_piece;
 pub use place::{Home, Place};
 pub use sink::{PutAnswer, Sink};
 pub use store::{KindAnswer, ListAnswer, ReadAnswer, Store, WriteAnswer};
+pub use sure::{SureSink, SureStore};
 pub use text::{Duplicate, Name, Text};

@@ -3,8 +3,9 @@ ghost use Rattle.std.specs.Prelude.{◌≡◌, ◌∷◌, ◌++◌, true, if◌t
 ghost use Rattle.pkg_world.specs.Path.{joined, along, path_text, is_absolute, is_plain, are_plain, folder_of, last_ends_in as last_part_ends_in, GivesPath};
 ghost use Rattle.std.specs.Prelude.{◌==◌, not};
 ghost use Rattle.std.specs.List.{list_all};
-ghost use Rattle.pkg_world.specs.Steps.{StepGives, CutsFirst};
+ghost use Rattle.pkg_world.specs.Steps.{StepGives};
 
+use crate::pieces::first_piece;
 use crate::text::Duplicate;
 use std::alloc::{AllocError, Global};
 use std::fmt;
@@ -83,7 +84,7 @@ impl NormPath {
         let mut parts = start(alloc, base, text)?;
         let mut rest = text;
         loop {
-            match first_piece(rest) {
+            match first_piece(rest, '/') {
                 Some((piece, more)) => {
                     step(alloc, &mut parts, piece)?;
                     rest = more;
@@ -164,14 +165,6 @@ fn start(alloc: Global, base: &NormPath, text: &str) -> Result<Vec<String>, Allo
     } else {
         copy_parts(alloc, &base.parts)
     }
-}
-
-/// The first piece of a text and what follows its slash; None where the text is one piece.
-#[tactic(auto, using(crate::proofs::Pieces::pieces_split, crate::proofs::Pieces::pieces_one, crate::proofs::Pieces::after_slash, crate::proofs::Pieces::before_slash, crate::proofs::Pieces::no_slash))]
-fn first_piece(text: &str) -> Option<(&str, &str)>
-    ensures { CutsFirst text.now result }
-{
-    text.split_once('/')
 }
 
 /// Goes along one piece between slashes.

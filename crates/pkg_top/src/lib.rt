@@ -1,0 +1,9 @@
+//! The top call: what a command of jlpkg answers, from its words, its place and the files.
+#![tactic(auto)]
+
+mod place;
+mod status;
+mod words;
+
+pub use place::{PlaceFault, place_from};
+pub use status::{Ended, Status, Told};
