@@ -1,6 +1,4 @@
 //! What no clause says: that the calls succeed, and examples of their answers.
-mod stanza;
-
 use super::*;
 use pkg_world::Text;
 use std::alloc::{AllocError, Global};
@@ -118,41 +116,5 @@ fn identifiers_are_found_in_the_order_of_names(rt: HostRuntime) -> Result<(), Fa
     let (first, id) = &ids.items()[0];
     assert_eq!(rt; first.as_str(), "A");
     assert_eq!(rt; id.as_bytes()[0], 0x11);
-    Ok(())
-}
-
-/// The path of the refusal of the stanzas below `deps`.
-fn stanza_path(alloc: Global, table: &Table) -> Option<Text> {
-    match table_at(
-        alloc,
-        ListOf {
-            reader: stanza::StanzaReader,
-        },
-        table,
-        "deps",
-    ) {
-        Err(Stop::Refused(refusal)) => refusal.path,
-        _ => None,
-    }
-}
-
-#[test]
-fn the_first_refusal_in_key_order_has_its_path(rt: HostRuntime) -> Result<(), Fail> {
-    for (text, want) in [
-        ("deps = 1", "deps"),
-        ("[deps]\nLib = 1", "deps.Lib"),
-        ("[[deps.Lib]]\npath = 1", "deps.Lib.path"),
-        ("[[deps.Lib]]\npath = \"p\"", "deps.Lib.uuid"),
-        (
-            "[[deps.Z]]\npath = 1\n[[deps.A]]\nuuid = \"no\"",
-            "deps.A.uuid",
-        ),
-    ] {
-        let table = view(rt.alloc(), text.as_bytes())?;
-        match stanza_path(rt.alloc(), &table) {
-            Some(path) => assert_eq!(rt; path.as_str(), want),
-            None => assert!(rt; false, "{want}"),
-        }
-    }
     Ok(())
 }
