@@ -1,6 +1,5 @@
 -- What each answer of the crate's calls tells of the bytes and tables.
 use Rattle.std.specs.Prelude.{◌≡◌, ℕ, List, String, Some, IsSome, Result, Ok, Err, MatchResult}
-use Rattle.toml.specs.Data.{Members}
 use Rattle.std.specs.BTreeMap.{BTreeMap}
 use Rattle.std.specs.declared.alloc.Global.{Global}
 use Rattle.toml.specs.View.{table_view}

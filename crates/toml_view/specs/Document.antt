@@ -1,5 +1,5 @@
 -- What table a file's bytes have.
-use Rattle.std.specs.Prelude.{◌≡◌, ℕ, suc, List, Bool, nat_le, if◌then◌else◌, Option, Some, None, Result, Ok, Err}
+use Rattle.std.specs.Prelude.{ℕ, List, nat_le, if◌then◌else◌, Option, Some, None, Result, Ok, Err}
 use Rattle.std.specs.Str.{is_utf8}
 use Rattle.toml.specs.Data.{Members, table, depth}
 use Rattle.toml.specs.Parse.{parse_document}

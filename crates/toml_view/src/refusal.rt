@@ -23,7 +23,9 @@ pub struct Refusal {
 /// Why a reading stops.
 #[derive(Debug, Drop)]
 pub enum Stop {
+    /// A value is refused.
     Refused(Refusal),
+    /// There was no memory.
     Memory,
 }
 
