@@ -1,3 +1,7 @@
+pub mod Grammar
 pub mod Machine
-pub mod Words
+pub mod Pieces
+pub mod Stages
+pub mod Stops
 pub mod Triple
+pub mod Words
