@@ -1,1 +1,5 @@
+mod Gives
+mod GrammarRuns
+mod Knows
 mod Numerals
+mod RunsGrammar

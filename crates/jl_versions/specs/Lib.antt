@@ -1,6 +1,9 @@
 pub mod Grammar
 pub mod Machine
+pub mod Order
+pub mod OrderLaws
 pub mod Pieces
+pub mod Refusals
 pub mod Stages
 pub mod Stops
 pub mod Triple

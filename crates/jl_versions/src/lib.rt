@@ -3,6 +3,7 @@
 
 pub mod fault;
 pub mod ident;
+mod order;
 mod reader;
 pub mod version;
 

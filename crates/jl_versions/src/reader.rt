@@ -4,7 +4,12 @@ ghost use Rattle.std.specs.Prelude.{◌≡◌, ◌*◌, ◌+◌, ◌-◌, IfOk, 
 ghost use Rattle.std.specs.Prelude.{IfErr};
 ghost use Rattle.jl_versions.specs.Machine.{run};
 ghost use Rattle.jl_versions.specs.Stages.{step, finish, number_step, label_step, triple_after, after_number, next_number, after_ident, labelled, version_of};
-ghost use Rattle.jl_versions.specs.Stops.{StopsAt};
+ghost use Rattle.std.specs.Prelude.{MatchResult};
+ghost use Rattle.jl_versions.specs.Grammar.{Reads};
+ghost use Rattle.jl_versions.specs.Refusals.{Refuses};
+ghost use Rattle.jl_versions.specs.declared.fault.VersionFault.TheVariants.{Memory};
+ghost use Rattle.jl_versions.specs.declared.version.Version.{Version};
+ghost use Rattle.jl_versions.specs.Stops.{StopsAt, Tells};
 ghost use Rattle.jl_versions.specs.declared.reader.Stage.TheVariants.{Fresh};
 
 use crate::fault::VersionFault;
@@ -220,4 +225,35 @@ fn stage_after(alloc: Global, bytes: &[u8]) -> Result<Stage, VersionFault>
         }
     }
     Ok(stage)
+}
+
+/// The version that the bytes mean, or where they stop to begin one.
+fn read_bytes(alloc: Global, bytes: &[u8]) -> Result<Version, VersionFault>
+    ensures { Tells bytes.now result }
+{
+    let stage = stage_after(alloc, bytes)?;
+    match stage.version(alloc)? {
+        Some(version) => Ok(version),
+        None => Err(VersionFault::BadVersion(bytes.len() as u64)),
+    }
+}
+
+impl Version {
+    /// The version that a text means: an optional `v`, one to three numbers below 2^32 joined by dots,
+    /// then optionally `-` and the identifiers of a pre-release, then optionally `+` and those of a
+    /// build (Julia manual, Version Number Literals). Identifiers are letters, digits and hyphens,
+    /// joined by dots; digits alone are a number below 2^64. Zeros may lead, and a missing number is 0.
+    ///
+    /// Any other text is refused by BadVersion, with the length in bytes of its longest front that
+    /// begins a version text. Want of memory comes apart from that.
+    pub fn read(alloc: Global, text: &str) -> Result<Version, VersionFault>
+        // What is read is what the text means.
+        ensures ok { IfOk result (Reads text.now) }
+        // What the text means is read, unless memory runs out.
+        ensures only { (v : Version) → Reads text.now v → MatchResult result (λ found. found ≡ v) (λ fault. fault ≡ Memory) }
+        // A refused text is no version text, and the place is where its longest good front ends.
+        ensures bad { IfErr result (Refuses text.now) }
+    {
+        read_bytes(alloc, text.as_bytes())
+    }
 }
