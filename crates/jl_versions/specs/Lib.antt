@@ -3,6 +3,7 @@ pub mod Machine
 pub mod Order
 pub mod OrderLaws
 pub mod Pieces
+pub mod Printing
 pub mod Refusals
 pub mod Stages
 pub mod Stops

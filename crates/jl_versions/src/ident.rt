@@ -2,7 +2,7 @@
 
 ghost use Rattle.std.specs.Prelude.{◌≡◌, ◌^◌, [], ◌∷◌, ◌++◌, OnOk, OnErr, IfOk, IsTrue, string_bytes, true, None, nat_lt, if◌then◌else◌, Some, length, ◌<◌};
 ghost use Rattle.std.specs.List.{list_all};
-ghost use Rattle.jl_versions.specs.Words.{is_digit, is_ident_byte, number_of};
+ghost use Rattle.jl_versions.specs.Words.{is_digit, is_ident_byte, is_word, number_of};
 ghost use Rattle.jl_versions.specs.Pieces.{ident_of};
 
 use std::alloc::{AllocError, Global};
@@ -29,9 +29,19 @@ impl Model for Word {
 impl Word {
     /// The word as a text.
     pub fn as_str(&self) -> &str
-        ensures { result.now ≡ self.now }
+        ensures bytes { result.now ≡ self.now }
+        ensures word { IsTrue (is_word self.now) }
     {
         self.text.as_str()
+    }
+
+    /// An equal word.
+    pub(crate) fn copy(&self, alloc: Global) -> Result<Word, AllocError>
+        ensures { IfOk result (λ word. word ≡ self.now) }
+    {
+        Ok(Word {
+            text: String::from_str(alloc, self.text.as_str())?,
+        })
     }
 }
 
@@ -42,6 +52,18 @@ pub enum Ident {
     Number(u64),
     /// Any other identifier, by its bytes.
     Word(Word),
+}
+
+impl Ident {
+    /// An equal identifier.
+    pub(crate) fn copy(&self, alloc: Global) -> Result<Ident, AllocError>
+        ensures { IfOk result (λ ident. ident ≡ self.now) }
+    {
+        match self {
+            Ident::Number(number) => Ok(Ident::Number(*number)),
+            Ident::Word(word) => Ok(Ident::Word(word.copy(alloc)?)),
+        }
+    }
 }
 
 /// A list of identifiers, seen as a list.
@@ -83,6 +105,18 @@ impl Idents {
     {
         self.inside.push(item)?;
         Ok(())
+    }
+
+    /// An equal list.
+    pub(crate) fn copy(&self, alloc: Global) -> Result<Idents, AllocError>
+        ensures { IfOk result (λ idents. idents ≡ self.now) }
+    {
+        let mut copy = Idents::make(alloc);
+        let items = self.items();
+        for ident in items {
+            copy.push(ident.copy(alloc)?)?;
+        }
+        Ok(copy)
     }
 }
 

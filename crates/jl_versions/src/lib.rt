@@ -4,9 +4,11 @@
 pub mod fault;
 pub mod ident;
 mod order;
+pub mod print;
 mod reader;
 pub mod version;
 
 pub use fault::VersionFault;
 pub use ident::{Ident, Idents, Word};
+pub use print::VersionText;
 pub use version::Version;
