@@ -3,7 +3,7 @@ use Rattle.std.specs.Prelude.{◌≡◌, ℕ, ◌<◌, ◌⊎◌, List, [], ◌�
 use Rattle.std.proofs.Common.{refl, ap, sym, ◌∙◌, subst, inl, inr, arith}
 use Rattle.std.specs.declared.cmp.Ordering.{Ordering}
 use Rattle.std.specs.declared.cmp.Ordering.TheVariants.{Less, Equal, Greater}
-use Rattle.std.specs.Ordering.{nat_cmp, bool_cmp, on, then_cmp, ordering_then, ordering_reverse}
+use Rattle.std.specs.Ordering.{nat_cmp, bool_cmp, on, then_cmp, ordering_then, ordering_reverse, eq_by_cmp, is_eq}
 use Rattle.std.specs.Cmp.{IsTotalOrder, nat_cmp_total, bool_cmp_total, then_total, on_total}
 use Rattle.std.specs.Cmp.Lexicographic.{slice_cmp, lists_total, nat_list_cmp_total}
 use Rattle.std.proofs.lemmas.Bool.Decides.{nat_tests}
@@ -239,3 +239,30 @@ less_is_below v w = (version_less v w, version_below v w)
 -- and Equal exactly at equal versions
 pub equal_is_same : (v w : Version) → (version_cmp v w ≡ Equal) ↔ (v ≡ w)
 equal_is_same v w = (version_same v w, λ e. subst (λ u. version_cmp v u ≡ Equal) e (version_equal v))
+
+-- ---- the order, in the words of its relation
+
+pub eq_is_same : (v w : Version) → (eq_by_cmp version_cmp v w ≡ true) ↔ (v ≡ w)
+eq_is_same v w = (λ e. version_same v w (tells (version_cmp v w) e), λ e. ap is_eq ((equal_is_same v w).1 e))
+  where
+    tells : (o : Ordering) → is_eq o ≡ true → o ≡ Equal
+    tells Less e = cc
+    tells Equal e = refl
+    tells Greater e = cc
+
+pub one_way : (v w : Version) → IsBelow v w ⊎ ((v ≡ w) ⊎ IsBelow w v)
+one_way v w = cases (version_cmp v w) refl
+  where
+    cases : (o : Ordering) → version_cmp v w ≡ o → IsBelow v w ⊎ ((v ≡ w) ⊎ IsBelow w v)
+    cases Less e = inl (version_less v w e)
+    cases Equal e = inr (inl (version_same v w e))
+    cases Greater e = inr (inr (version_less w v (version_total.antisymm w v ∙ ap ordering_reverse e)))
+
+pub strict : (v : Version) → IsBelow v v → ⊥
+strict v below = apart (sym (version_below v v below) ∙ version_equal v)
+  where
+    apart : Less ≡ Equal → ⊥
+    apart e = cc
+
+pub through : (u v w : Version) → IsBelow u v → IsBelow v w → IsBelow u w
+through u v w first second = version_less u w (version_total.trans u v w (version_below u v first) (version_below v w second))

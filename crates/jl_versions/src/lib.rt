@@ -3,6 +3,7 @@
 
 pub mod fault;
 pub mod ident;
+pub mod laws;
 mod order;
 pub mod print;
 mod reader;
@@ -12,3 +13,6 @@ pub use fault::VersionFault;
 pub use ident::{Ident, Idents, Word};
 pub use print::VersionText;
 pub use version::Version;
+
+#[cfg(test)]
+mod tests;
