@@ -1,0 +1,5 @@
+pub mod Pieces
+pub mod Numbers
+pub mod NumberMachine
+pub mod PartMachine
+pub mod Specifiers

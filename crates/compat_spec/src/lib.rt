@@ -1,0 +1,9 @@
+//! Pkg's compatibility specifiers and the ranges of its registries: which texts they are, which
+//! versions they hold, and the first bad place of any other text.
+#![tactic(auto)]
+
+pub mod numbers;
+pub mod part;
+
+pub use numbers::Numbers;
+pub use part::Part;
