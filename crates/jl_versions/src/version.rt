@@ -1,0 +1,41 @@
+//! A version and its three numbers.
+
+ghost use Rattle.std.specs.Prelude.{◌≡◌, [], ◌∷◌, slice_get, Some};
+ghost use Rattle.jl_versions.specs.Triple.{triple_of, release};
+
+use crate::ident::Idents;
+use std::alloc::Global;
+
+/// A version as Julia numbers them: three numbers, the identifiers of a pre-release and those of a
+/// build. No identifiers means that there is no pre-release, or no build.
+#[derive(Drop)]
+pub struct Version {
+    pub major: u32,
+    pub minor: u32,
+    pub patch: u32,
+    pub pre: Idents,
+    pub build: Idents,
+}
+
+impl Version {
+    /// The version with these numbers, without pre-release and build. Takes no memory.
+    pub fn of(alloc: Global, triple: [u32; 3]) -> Version
+        ensures { result ≡ release triple }
+    {
+        let [major, minor, patch] = triple;
+        Version {
+            major,
+            minor,
+            patch,
+            pre: Idents::make(alloc),
+            build: Idents::make(alloc),
+        }
+    }
+
+    /// The three numbers: major, minor, patch. Takes no memory.
+    pub fn triple(&self) -> [u32; 3]
+        ensures { result ≡ triple_of self.now }
+    {
+        [self.major, self.minor, self.patch]
+    }
+}
