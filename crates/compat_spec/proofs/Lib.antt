@@ -1,2 +1,5 @@
 pub mod Cuts
 pub mod NumberReads
+pub mod PartReads
+pub mod Machines
+pub mod SpecReads

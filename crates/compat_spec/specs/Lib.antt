@@ -3,3 +3,5 @@ pub mod Numbers
 pub mod NumberMachine
 pub mod PartMachine
 pub mod Specifiers
+pub mod SpecMachine
+pub mod Refusals

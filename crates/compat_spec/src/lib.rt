@@ -2,8 +2,12 @@
 //! versions they hold, and the first bad place of any other text.
 #![tactic(auto)]
 
+pub mod fault;
 pub mod numbers;
 pub mod part;
+pub mod spec;
 
+pub use fault::SpecFault;
 pub use numbers::Numbers;
 pub use part::Part;
+pub use spec::Spec;
