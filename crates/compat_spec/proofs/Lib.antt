@@ -3,3 +3,4 @@ pub mod NumberReads
 pub mod PartReads
 pub mod Machines
 pub mod SpecReads
+pub mod Ends

@@ -5,3 +5,7 @@ pub mod PartMachine
 pub mod Specifiers
 pub mod SpecMachine
 pub mod Refusals
+pub mod Meaning
+pub mod Ranges
+pub mod RangeMachine
+pub mod RangeMeaning

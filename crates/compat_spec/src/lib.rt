@@ -2,12 +2,15 @@
 //! versions they hold, and the first bad place of any other text.
 #![tactic(auto)]
 
+mod bounds;
 pub mod fault;
 pub mod numbers;
 pub mod part;
+pub mod range;
 pub mod spec;
 
 pub use fault::SpecFault;
 pub use numbers::Numbers;
 pub use part::Part;
+pub use range::{Bound, Range};
 pub use spec::Spec;

@@ -2,8 +2,11 @@
 
 ghost use Rattle.std.specs.Prelude.{◌≡◌};
 ghost use Rattle.compat_spec.specs.PartMachine.{part_step, part_end, made_by, stage_after, first_step, operand_step, space_step};
+ghost use Rattle.compat_spec.specs.Meaning.{part_holds};
+ghost use Rattle.jl_versions.specs.Triple.{triple_of};
 
 use crate::numbers::{Begun, Numbers, Reading};
+use jl_versions::Version;
 
 /// One part of a specifier, as it is written.
 #[derive(Clone, Copy, Debug, PartialEq, Eq, Drop)]
@@ -166,6 +169,23 @@ impl Stage {
             Stage::Spaced(numbers) => Some(Part::Caret(numbers)),
             Stage::Done(part) => Some(part),
             _ => None,
+        }
+    }
+}
+
+impl Part {
+    /// Whether the version lies in the part's interval. Takes no memory.
+    pub fn holds(self, v: &Version) -> bool
+        ensures { result ≡ part_holds self (triple_of v.now) }
+    {
+        match self {
+            Part::Caret(numbers) => numbers.up_to(numbers.caret_top(), v),
+            Part::Tilde(numbers) => numbers.up_to(numbers.tilde_top(), v),
+            Part::Equal(numbers) => numbers.up_to(numbers.whole(), v),
+            Part::AtLeast(numbers) => !numbers.is_above(v),
+            Part::Below(numbers) => numbers.is_above(v),
+            Part::Between(low, high) => low.up_to(high, v),
+            Part::Every => true,
         }
     }
 }

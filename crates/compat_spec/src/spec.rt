@@ -1,12 +1,15 @@
 //! Whole specifiers.
 
 ghost use Rattle.std.specs.Prelude.{◌≡◌, IfOk, IfErr, Some};
+ghost use Rattle.jl_versions.specs.Triple.{triple_of};
+ghost use Rattle.compat_spec.specs.Meaning.{specifier_holds};
 ghost use Rattle.compat_spec.specs.SpecMachine.{Stands};
 ghost use Rattle.compat_spec.specs.Specifiers.{specifier_of, IsSpecifier};
 ghost use Rattle.compat_spec.specs.Refusals.{Refuses};
 
 use crate::fault::SpecFault;
 use crate::part::{Part, Stage};
+use jl_versions::Version;
 use std::alloc::{AllocError, Global};
 use std::marker::Model;
 
@@ -63,5 +66,20 @@ impl Spec {
             }
             None => Err(SpecFault::BadSpec(text.len() as u64)),
         }
+    }
+
+    /// Whether one of the parts holds the version, by its three numbers. Takes no memory.
+    pub fn holds(&self, v: &Version) -> bool
+        ensures { result ≡ specifier_holds self.now (triple_of v.now) }
+    {
+        self.parts.iter().any(|part| part.holds(v))
+    }
+
+    /// An equal specifier. Want of memory is the one error.
+    pub fn copy(&self, alloc: Global) -> Result<Spec, AllocError>
+        ensures { IfOk result (λ spec. spec ≡ self.now) }
+    {
+        let parts = Vec::from_slice(alloc, self.parts.as_slice())?;
+        Ok(Spec { parts })
     }
 }
