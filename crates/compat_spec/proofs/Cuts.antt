@@ -24,6 +24,10 @@ pieces_are c (b ∷ bs) =
 pub words_are : (text : List ℕ) → words text ≡ filled (before 32 text ∷ behind 32 text)
 words_are text = ap filled (pieces_are 32 text)
 
+-- words that begin with a byte that is no space
+pub words_begin : (b : ℕ) (bytes : List ℕ) → eqb b 32 ≡ false → words (b ∷ bytes) ≡ (b ∷ before 32 bytes) ∷ filled (behind 32 bytes)
+words_begin b bytes e = words_are (b ∷ bytes) ∙ rw e refl
+
 -- ---- steps that may fail
 
 abbrev pub nothing : (B : Type 0) → Option B

@@ -4,3 +4,4 @@ pub mod PartReads
 pub mod Machines
 pub mod SpecReads
 pub mod Ends
+pub mod RangeReads

@@ -137,3 +137,8 @@ numbers_of-v bytes = ap (λ ps. gathered (map number_of ps)) (pieces_are 46 byte
 pub numbers_of-plain : (b : ℕ) (bytes : List ℕ) → eqb b 118 ≡ false → numbers_of (b ∷ bytes) ≡ numbers_from (Awaiting Nothing) (b ∷ bytes)
 unfolding numbers_of numbers_from gathered_after
 numbers_of-plain b bytes e = rw e (ap (λ ps. gathered (map number_of ps)) (pieces_are 46 (b ∷ bytes)))
+
+-- no numbers begin so
+pub numbers_of-none : (b : ℕ) (bytes : List ℕ) → eqb b 118 ≡ false → eqb b 46 ≡ false → is_ascii_digit b ≡ false → numbers_of (b ∷ bytes) ≡ None
+unfolding numbers_of number_of gathered
+numbers_of-none b bytes v dot digit = rw v (ap (λ ps. gathered (map number_of ps)) (pieces_are 46 (b ∷ bytes)) ∙ rw (dot, digit) refl)

@@ -19,8 +19,8 @@ use Rattle.compat_spec.specs.Numbers.{number_of, gathered, numbers_of}
 use Rattle.compat_spec.specs.NumberMachine.{numbers_step, numbers_end}
 use Rattle.compat_spec.specs.PartMachine.{made_by, stage_after, awaiting, within_step, operand_step, first_step, space_step, byte_step, part_step, part_end}
 use Rattle.compat_spec.specs.Specifiers.{Operator, operator, operators, operand, plain, by_operators, part_of}
-use Rattle.compat_spec.proofs.Cuts.{before, behind, pieces_are, words_are, nothing, bind_none, bind_through}
-use Rattle.compat_spec.proofs.NumberReads.{numbers_from, numbers_from-end, numbers_from-step, numbers_of-v, numbers_of-plain}
+use Rattle.compat_spec.proofs.Cuts.{before, behind, pieces_are, words_are, words_begin, nothing, bind_none, bind_through}
+use Rattle.compat_spec.proofs.NumberReads.{numbers_from, numbers_from-end, numbers_from-step, numbers_of-v, numbers_of-plain, numbers_of-none}
 
 -- a part after which there are no more words
 unfoldable pub alone : Part → List (List ℕ) → Option Part
@@ -63,13 +63,6 @@ part_from (Done part) bytes = alone part (words bytes)
 abbrev pub Goes : Stage → List ℕ → ℕ → Type 0
 Goes stage bytes b = part_from stage (b ∷ bytes) ≡ (part_step stage b >>= λ after. part_from after bytes)
 
--- words that begin with a byte that is no space
-words_begin : (b : ℕ) (bytes : List ℕ) → eqb b 32 ≡ false → words (b ∷ bytes) ≡ (b ∷ before 32 bytes) ∷ filled (behind 32 bytes)
-words_begin b bytes e = words_are (b ∷ bytes) ∙ rw e refl
-
-words_space : (bytes : List ℕ) → words (32 ∷ bytes) ≡ words bytes
-words_space bytes = refl
-
 -- ---- numbers as the first word
 
 within_goes : (lead : Lead) (reading : Reading) (b : ℕ) (bytes : List ℕ) →
@@ -98,11 +91,6 @@ unfolding part_from first_word
 signed_goes lead b bytes e = rw (words_begin b bytes e) (operand_goes lead b bytes)
 
 -- ---- a part's first byte
-
--- no numbers begin so
-numbers_of-none : (b : ℕ) (bytes : List ℕ) → eqb b 118 ≡ false → eqb b 46 ≡ false → is_ascii_digit b ≡ false → numbers_of (b ∷ bytes) ≡ None
-unfolding numbers_of number_of gathered
-numbers_of-none b bytes v dot digit = rw v (ap (λ ps. gathered (map number_of ps)) (pieces_are 46 (b ∷ bytes)) ∙ rw (dot, digit) refl)
 
 plain-none : (word : List ℕ) (others : List (List ℕ)) → is_text (codes "*") word ≡ false → numbers_of word ≡ None → plain (word ∷ others) ≡ None
 unfolding plain

@@ -9,3 +9,5 @@ pub mod Meaning
 pub mod Ranges
 pub mod RangeMachine
 pub mod RangeMeaning
+pub mod Listing
+pub mod Admitted
