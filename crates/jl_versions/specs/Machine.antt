@@ -98,3 +98,8 @@ unended_first_bad {S} {step} {start} {IsEnd} {P} knows text s stands unended =
       begun = subst (IsViable P) (sym (take-length text)) (runs_viable knows text s stands);
       ended = λ inside _. absurd (omega (arith, inside));
     }
+
+-- one byte further in a text
+pub run_further : {S : Type 0} (step : S → ℕ → Option S) (start s t : S) (text : List ℕ) (place : ℕ) → place < length text → run step start (take place text) ≡ Some s → Some t ≡ step s (get_or text place 0) → run step start (take (place + 1) text) ≡ Some t
+run_further step start s t text place inside stands goes =
+    ap (run step start) (take_more text place 0 inside) ∙ run-snoc step start s (take place text) (get_or text place 0) stands ∙ sym goes

@@ -1,10 +1,10 @@
 //! A version and its three numbers.
 
-ghost use Rattle.std.specs.Prelude.{◌≡◌, [], ◌∷◌, slice_get, Some};
+ghost use Rattle.std.specs.Prelude.{◌≡◌, IfOk, [], ◌∷◌, slice_get, Some};
 ghost use Rattle.jl_versions.specs.Triple.{triple_of, release};
 
 use crate::ident::Idents;
-use std::alloc::Global;
+use std::alloc::{AllocError, Global};
 
 /// A version as Julia numbers them: three numbers, the identifiers of a pre-release and those of a
 /// build. No identifiers means that there is no pre-release, or no build.
@@ -37,5 +37,18 @@ impl Version {
         ensures { result ≡ triple_of self.now }
     {
         [self.major, self.minor, self.patch]
+    }
+
+    /// An equal version.
+    pub fn copy(&self, alloc: Global) -> Result<Version, AllocError>
+        ensures { IfOk result (λ copy. copy ≡ self.now) }
+    {
+        Ok(Version {
+            major: self.major,
+            minor: self.minor,
+            patch: self.patch,
+            pre: self.pre.copy(alloc)?,
+            build: self.build.copy(alloc)?,
+        })
     }
 }
