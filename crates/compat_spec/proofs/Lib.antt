@@ -5,3 +5,4 @@ pub mod Machines
 pub mod SpecReads
 pub mod Ends
 pub mod RangeReads
+pub mod Places

@@ -11,3 +11,4 @@ pub mod RangeMachine
 pub mod RangeMeaning
 pub mod Listing
 pub mod Admitted
+pub mod Table

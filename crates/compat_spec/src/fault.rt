@@ -4,7 +4,7 @@ use std::alloc::{AllocError, AllocFailed};
 use thiserror::Error;
 
 /// Why reading a specifier or a range gave none.
-#[derive(Debug, Drop, Error)]
+#[derive(Clone, Copy, Debug, PartialEq, Eq, Error)]
 pub enum SpecFault {
     /// The text is none, and this many of its bytes begin some text that is one: its first bad place.
     #[error("no compatibility text from byte {0} on")]

@@ -4,12 +4,15 @@
 
 pub mod allowed;
 mod bounds;
+pub mod laws;
 pub mod fault;
 pub mod numbers;
 pub mod part;
 pub mod range;
 pub mod range_set;
 pub mod spec;
+#[cfg(test)]
+mod tests;
 
 pub use allowed::Allowed;
 pub use fault::SpecFault;
