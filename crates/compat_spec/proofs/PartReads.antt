@@ -238,15 +238,39 @@ at_other b bytes other =
 
 before_goes : (b : ℕ) (bytes : List ℕ) → Goes Before bytes b
 before_goes b bytes =
-    elim (eqb_tells b 32) [ inl e ↦ subst (Goes Before bytes) (sym e.1) (at_space bytes) | inr space ↦
-    elim (eqb_tells b 94) [ inl e ↦ subst (Goes Before bytes) (sym e.1) (at_caret bytes) | inr caret ↦
-    elim (eqb_tells b 126) [ inl e ↦ subst (Goes Before bytes) (sym e.1) (at_tilde bytes) | inr tilde ↦
-    elim (eqb_tells b 61) [ inl e ↦ subst (Goes Before bytes) (sym e.1) (at_equal bytes) | inr equal ↦
-    elim (eqb_tells b 62) [ inl e ↦ subst (Goes Before bytes) (sym e.1) (at_greater bytes) | inr greater ↦
-    elim (eqb_tells b 226) [ inl e ↦ subst (Goes Before bytes) (sym e.1) (at_wide bytes) | inr wide ↦
-    elim (eqb_tells b 60) [ inl e ↦ subst (Goes Before bytes) (sym e.1) (at_below bytes) | inr below ↦
-    elim (eqb_tells b 42) [ inl e ↦ subst (Goes Before bytes) (sym e.1) (at_star bytes) | inr star ↦
-    at_other b bytes (record { space = space.0; caret = caret.0; tilde = tilde.0; equal = equal.0; greater = greater.0; wide = wide.0; below = below.0; star = star.0 }) ] ] ] ] ] ] ] ]
+    elim (eqb_tells b 32) [
+      | inl e ↦ subst (Goes Before bytes) (sym e.1) (at_space bytes)
+      | inr space ↦
+          elim (eqb_tells b 94) [
+            | inl e ↦ subst (Goes Before bytes) (sym e.1) (at_caret bytes)
+            | inr caret ↦
+                elim (eqb_tells b 126) [
+                  | inl e ↦ subst (Goes Before bytes) (sym e.1) (at_tilde bytes)
+                  | inr tilde ↦
+                      elim (eqb_tells b 61) [
+                        | inl e ↦ subst (Goes Before bytes) (sym e.1) (at_equal bytes)
+                        | inr equal ↦
+                            elim (eqb_tells b 62) [
+                              | inl e ↦ subst (Goes Before bytes) (sym e.1) (at_greater bytes)
+                              | inr greater ↦
+                                  elim (eqb_tells b 226) [
+                                    | inl e ↦ subst (Goes Before bytes) (sym e.1) (at_wide bytes)
+                                    | inr wide ↦
+                                        elim (eqb_tells b 60) [
+                                          | inl e ↦ subst (Goes Before bytes) (sym e.1) (at_below bytes)
+                                          | inr below ↦
+                                              elim (eqb_tells b 42) [
+                                                | inl e ↦ subst (Goes Before bytes) (sym e.1) (at_star bytes)
+                                                | inr star ↦
+                                                    at_other b bytes (record { space = space.0; caret = caret.0; tilde = tilde.0; equal = equal.0; greater = greater.0; wide = wide.0; below = below.0; star = star.0 })
+                                              ]
+                                        ]
+                                  ]
+                            ]
+                      ]
+                ]
+          ]
+    ]
 
 -- ---- the other stages at a space
 

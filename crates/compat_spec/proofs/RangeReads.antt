@@ -203,7 +203,7 @@ at_other : (now : Stage) (b : ℕ) (bytes : List ℕ) → eqb b 45 ≡ false →
 unfolding range_from range_step
 at_other now b bytes other =
     rw other (ap (λ (o : Option Bound). o >>= with_upper now.side (behind 45 bytes)) (bound_from-step now.piece b (before 45 bytes))
-      ∙ bind_through (piece_step now.piece b) (λ after. bound_from after (before 45 bytes)) (with_upper now.side (behind 45 bytes)) (λ after. stage now.side after) (λ after. range_from after bytes) (λ after. refl))
+    ∙ bind_through (piece_step now.piece b) (λ after. bound_from after (before 45 bytes)) (with_upper now.side (behind 45 bytes)) (λ after. stage now.side after) (λ after. range_from after bytes) (λ after. refl))
 
 goes : (now : Stage) (b : ℕ) (bytes : List ℕ) → RangeGoes now bytes b
 goes now b bytes =

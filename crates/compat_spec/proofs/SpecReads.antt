@@ -58,7 +58,7 @@ at_other : (now : Progress) (b : ℕ) (bytes : List ℕ) → eqb b 44 ≡ false 
 unfolding specifier_from with_others specifier_step
 at_other now b bytes other =
     rw other (ap (λ (o : Option Part). o >>= with_others now.parts bytes) (part_from-step now.stage b (before 44 bytes))
-      ∙ bind_through (part_step now.stage b) (λ after. part_from after (before 44 bytes)) (with_others now.parts bytes) (λ after. progress now.parts after) (λ after. specifier_from after bytes) (λ after. refl))
+    ∙ bind_through (part_step now.stage b) (λ after. part_from after (before 44 bytes)) (with_others now.parts bytes) (λ after. progress now.parts after) (λ after. specifier_from after bytes) (λ after. refl))
 
 goes : (now : Progress) (b : ℕ) (bytes : List ℕ) → Goes now bytes b
 goes now b bytes =

@@ -19,8 +19,7 @@ impl Numbers {
             }
             Numbers::Patch(major, minor, patch) => {
                 v.major < major
-                    || v.major == major
-                        && (v.minor < minor || v.minor == minor && v.patch < patch)
+                    || v.major == major && (v.minor < minor || v.minor == minor && v.patch < patch)
             }
         }
     }
@@ -36,8 +35,7 @@ impl Numbers {
             }
             Numbers::Patch(major, minor, patch) => {
                 major < v.major
-                    || major == v.major
-                        && (minor < v.minor || minor == v.minor && patch < v.patch)
+                    || major == v.major && (minor < v.minor || minor == v.minor && patch < v.patch)
             }
         }
     }

@@ -11,12 +11,10 @@ pub fn table_of_specifiers()
     ensures carets { map (λ row. meaning row.text) carets ≡ map (λ row. Some row.intervals) carets }
     ensures tildes { map (λ row. meaning row.text) tildes ≡ map (λ row. Some row.intervals) tildes }
     ensures others { map (λ row. meaning row.text) others ≡ map (λ row. Some row.intervals) others }
-{
-}
+{}
 
 /// A refused text has one first bad place.
 pub fn one_first_bad_place()
     ensures specifier { (text : List ℕ) (a b : ℕ) → IsFirstBadOf IsSpecifier text a → IsFirstBadOf IsSpecifier text b → a ≡ b }
     ensures range { (text : List ℕ) (a b : ℕ) → IsFirstBadOf IsRange text a → IsFirstBadOf IsRange text b → a ≡ b }
-{
-}
+{}

@@ -4,8 +4,8 @@
 
 pub mod allowed;
 mod bounds;
-pub mod laws;
 pub mod fault;
+pub mod laws;
 pub mod numbers;
 pub mod part;
 pub mod range;

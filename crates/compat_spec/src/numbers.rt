@@ -16,7 +16,7 @@ pub enum Numbers {
 
 /// The numbers that stand before a dot.
 #[derive(Clone, Copy, Drop)]
-pub enum Begun {
+pub(crate) enum Begun {
     Nothing,
     AfterMajor(u32),
     AfterMinor(u32, u32),
@@ -24,7 +24,7 @@ pub enum Begun {
 
 /// Where the reading of numbers stands.
 #[derive(Clone, Copy, Drop)]
-pub enum Reading {
+pub(crate) enum Reading {
     /// A number has to begin.
     Awaiting(Begun),
     /// Within a number, with its value so far.
@@ -53,7 +53,7 @@ fn further(begun: Begun, value: u32, digit: u8) -> Option<Reading>
 impl Reading {
     /// Reading one byte further, or None where no numbers go on so.
     #[tactic(auto, unfolding(crate::specs::NumberMachine::numbers_step))]
-    pub fn step(self, byte: u8) -> Option<Reading>
+    pub(crate) fn step(self, byte: u8) -> Option<Reading>
         ensures { result ≡ numbers_step self byte }
     {
         match self {
@@ -77,7 +77,7 @@ impl Reading {
     }
 
     /// The numbers that have been read, where they may end here.
-    pub fn finish(self) -> Option<Numbers>
+    pub(crate) fn finish(self) -> Option<Numbers>
         ensures { result ≡ numbers_end self }
     {
         match self {

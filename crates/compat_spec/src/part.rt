@@ -29,7 +29,7 @@ pub enum Part {
 
 /// What stands before the numbers that are being read.
 #[derive(Clone, Copy, Drop)]
-pub enum Lead {
+pub(crate) enum Lead {
     /// Nothing: a hyphen may follow.
     Bare,
     Caret,
@@ -43,7 +43,7 @@ pub enum Lead {
 
 /// Where the reading of a part stands.
 #[derive(Clone, Copy, Drop)]
-pub enum Stage {
+pub(crate) enum Stage {
     /// Nothing but spaces so far.
     Before,
     /// After `>`.
@@ -120,7 +120,7 @@ fn first(byte: u8) -> Option<Stage>
 impl Stage {
     /// Reading one byte further, or None where no part goes on so.
     #[tactic(auto, unfolding(crate::specs::PartMachine::part_step))]
-    pub fn step(self, byte: u8) -> Option<Stage>
+    pub(crate) fn step(self, byte: u8) -> Option<Stage>
         ensures { result ≡ part_step self byte }
     {
         if byte == b' ' {
@@ -158,7 +158,7 @@ impl Stage {
 
     /// The part that has been read, where it may end here.
     #[tactic(auto, unfolding(crate::specs::PartMachine::part_end))]
-    pub fn finish(self) -> Option<Part>
+    pub(crate) fn finish(self) -> Option<Part>
         ensures { result ≡ part_end self }
     {
         match self {

@@ -22,7 +22,7 @@ pub enum Bound {
 
 /// Where the reading of a bound stands.
 #[derive(Clone, Copy, Drop)]
-pub enum Piece {
+enum Piece {
     /// Nothing but spaces so far.
     Open,
     /// Within numbers.
@@ -33,7 +33,7 @@ pub enum Piece {
 
 /// Which bound is being read.
 #[derive(Clone, Copy, Drop)]
-pub enum Side {
+enum Side {
     Lower,
     /// The upper one, behind this lower one.
     Upper(Bound),
@@ -41,7 +41,7 @@ pub enum Side {
 
 /// Where the reading of a range stands.
 #[derive(Clone, Copy, Drop)]
-pub struct Stage {
+struct Stage {
     side: Side,
     piece: Piece,
 }
@@ -226,8 +226,10 @@ fn bounds_of(text: &str) -> Result<(Bound, Bound), SpecFault>
 impl Range {
     ghost use Rattle.compat_spec.specs.RangeMeaning.{range_holds};
 
-    /// The range that a text is. BadSpec comes exactly where the text is none, with the length of the
-    /// longest prefix of its bytes that begins some range.
+    /// The range that a text is: a bound, or two with a hyphen between them, each a star or numbers (the
+    /// registries' Compat.toml; where spaces may stand is an own rule). BadSpec comes exactly where the
+    /// text is none, with the length in bytes of its longest prefix that begins some range. Memory comes
+    /// where memory ran out.
     pub fn read(alloc: Global, text: &str) -> Result<Range, SpecFault>
         ensures kept { IfOk result (λ range. range.text ≡ text.now) }
         ensures ok { IfOk result (λ range. range_of text.now ≡ Some range.bounds) }

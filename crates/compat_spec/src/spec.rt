@@ -45,8 +45,10 @@ fn advance(parts: &mut Vec<Part>, stage: Stage, byte: u8) -> Result<Option<Stage
 }
 
 impl Spec {
-    /// The specifier that a text is. BadSpec comes exactly where the text is none, with the length of
-    /// the longest prefix of its bytes that begins some specifier.
+    /// The specifier that a text is: parts joined by commas, each an operator and numbers, numbers, two
+    /// ends with a hyphen, or a star (Pkg, Compatibility; where spaces may stand is an own rule). BadSpec
+    /// comes exactly where the text is none, with the length in bytes of its longest prefix that begins
+    /// some specifier. Memory comes where memory ran out.
     pub fn read(alloc: Global, text: &str) -> Result<Spec, SpecFault>
         ensures ok { IfOk result (λ spec. specifier_of text.now ≡ Some spec) }
         ensures bad { IfErr result (Refuses IsSpecifier text.now) }

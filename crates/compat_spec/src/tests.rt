@@ -1,5 +1,3 @@
-ghost use Rattle.std.specs.Prelude.{◌≡◌, IfOk, length};
-
 use crate::allowed::Allowed;
 use crate::fault::SpecFault;
 use crate::range::Range;
@@ -10,40 +8,46 @@ use std::alloc::Global;
 use std::test::Fail;
 
 /// Specifiers, with versions that each holds and versions that it doesn't.
-const SPECIFIERS: [(&str, [&str; 2], [&str; 2]); 33] = [
-    ("^1.2.3", ["1.2.3", "1.99.0"], ["1.2.2", "2.0.0"]),
-    ("1.2.3", ["1.2.3", "1.99.0"], ["1.2.2", "2.0.0"]),
-    ("^1.2", ["1.2.0", "1.9.9"], ["1.1.9", "2.0.0"]),
-    ("^1", ["1.0.0", "1.9.9"], ["0.9.9", "2.0.0"]),
-    ("^0.2.3", ["0.2.3", "0.2.9"], ["0.2.2", "0.3.0"]),
-    ("^0.2", ["0.2.0", "0.2.9"], ["0.1.9", "0.3.0"]),
-    ("^0.0.3", ["0.0.3", "0.0.3+7"], ["0.0.2", "0.0.4"]),
-    ("0.0.3", ["0.0.3", "0.0.3+7"], ["0.0.2", "0.0.4"]),
-    ("^0.0", ["0.0.0", "0.0.9"], ["0.1.0", "1.0.0"]),
-    ("0.0", ["0.0.0", "0.0.9"], ["0.1.0", "1.0.0"]),
-    ("^0", ["0.0.0", "0.9.9"], ["1.0.0", "1.0.1"]),
-    ("0.0.0", ["0.0.0", "0.0.0-a"], ["0.0.1", "0.1.0"]),
-    ("~1.2.3", ["1.2.3", "1.2.9"], ["1.2.2", "1.3.0"]),
-    ("~1.2", ["1.2.0", "1.2.9"], ["1.1.9", "1.3.0"]),
-    ("~1", ["1.0.0", "1.9.9"], ["0.9.9", "2.0.0"]),
-    ("~0.2.3", ["0.2.3", "0.2.9"], ["0.2.2", "0.3.0"]),
-    ("~0.0.3", ["0.0.3", "0.0.3-a"], ["0.0.2", "0.0.4"]),
-    ("~0.0", ["0.0.0", "0.0.9"], ["0.1.0", "1.0.0"]),
-    ("~0", ["0.0.0", "0.9.9"], ["1.0.0", "1.0.1"]),
-    ("=1.2", ["1.2.0", "1.2.0-rc1"], ["1.1.9", "1.2.1"]),
-    (">=1.2", ["1.2.0", "4294967295.0.0"], ["1.1.9", "0.9.9"]),
-    ("≥1.2", ["1.2.0", "4294967295.0.0"], ["1.1.9", "0.9.9"]),
-    ("<1.2", ["0.0.0", "1.1.9"], ["1.2.0", "1.2.1"]),
-    ("1.2.3 - 4.5.6", ["1.2.3", "4.5.6"], ["1.2.2", "4.5.7"]),
-    ("1.2.3 - 4.5", ["1.2.3", "4.5.9"], ["1.2.2", "4.6.0"]),
-    ("1.2.3 - 4", ["1.2.3", "4.9.9"], ["1.2.2", "5.0.0"]),
-    ("0.2 - 0", ["0.2.0", "0.9.9"], ["0.1.9", "1.0.0"]),
-    ("1.2, 2", ["1.9.0", "2.0.0"], ["1.1.9", "3.0.0"]),
-    (" v1  -  v2.1 ", ["1.0.0", "2.1.9"], ["0.9.9", "2.2.0"]),
-    (" ^ v1.2 ,~2.3", ["1.9.9", "2.3.9"], ["2.2.9", "2.4.0"]),
-    ("<1,= 2,*,3", ["0.0.0", "1.5.0"], ["", ""]),
-    ("007.08", ["7.8.0", "7.9.0"], ["7.7.9", "8.0.0"]),
-    ("4294967295", ["4294967295.0.0", "4294967295.9.9"], ["4294967294.9.9", "0.0.0"]),
+const SPECIFIERS: [(&str, &str, &str, &str, &str); 33] = [
+    ("^1.2.3", "1.2.3", "1.99.0", "1.2.2", "2.0.0"),
+    ("1.2.3", "1.2.3", "1.99.0", "1.2.2", "2.0.0"),
+    ("^1.2", "1.2.0", "1.9.9", "1.1.9", "2.0.0"),
+    ("^1", "1.0.0", "1.9.9", "0.9.9", "2.0.0"),
+    ("^0.2.3", "0.2.3", "0.2.9", "0.2.2", "0.3.0"),
+    ("^0.2", "0.2.0", "0.2.9", "0.1.9", "0.3.0"),
+    ("^0.0.3", "0.0.3", "0.0.3+7", "0.0.2", "0.0.4"),
+    ("0.0.3", "0.0.3", "0.0.3+7", "0.0.2", "0.0.4"),
+    ("^0.0", "0.0.0", "0.0.9", "0.1.0", "1.0.0"),
+    ("0.0", "0.0.0", "0.0.9", "0.1.0", "1.0.0"),
+    ("^0", "0.0.0", "0.9.9", "1.0.0", "1.0.1"),
+    ("0.0.0", "0.0.0", "0.0.0-a", "0.0.1", "0.1.0"),
+    ("~1.2.3", "1.2.3", "1.2.9", "1.2.2", "1.3.0"),
+    ("~1.2", "1.2.0", "1.2.9", "1.1.9", "1.3.0"),
+    ("~1", "1.0.0", "1.9.9", "0.9.9", "2.0.0"),
+    ("~0.2.3", "0.2.3", "0.2.9", "0.2.2", "0.3.0"),
+    ("~0.0.3", "0.0.3", "0.0.3-a", "0.0.2", "0.0.4"),
+    ("~0.0", "0.0.0", "0.0.9", "0.1.0", "1.0.0"),
+    ("~0", "0.0.0", "0.9.9", "1.0.0", "1.0.1"),
+    ("=1.2", "1.2.0", "1.2.0-rc1", "1.1.9", "1.2.1"),
+    (">=1.2", "1.2.0", "4294967295.0.0", "1.1.9", "0.9.9"),
+    ("≥1.2", "1.2.0", "4294967295.0.0", "1.1.9", "0.9.9"),
+    ("<1.2", "0.0.0", "1.1.9", "1.2.0", "1.2.1"),
+    ("1.2.3 - 4.5.6", "1.2.3", "4.5.6", "1.2.2", "4.5.7"),
+    ("1.2.3 - 4.5", "1.2.3", "4.5.9", "1.2.2", "4.6.0"),
+    ("1.2.3 - 4", "1.2.3", "4.9.9", "1.2.2", "5.0.0"),
+    ("0.2 - 0", "0.2.0", "0.9.9", "0.1.9", "1.0.0"),
+    ("1.2, 2", "1.9.0", "2.0.0", "1.1.9", "3.0.0"),
+    (" v1  -  v2.1 ", "1.0.0", "2.1.9", "0.9.9", "2.2.0"),
+    (" ^ v1.2 ,~2.3", "1.9.9", "2.3.9", "2.2.9", "2.4.0"),
+    ("<1,= 2,*,3", "0.0.0", "1.5.0", "", ""),
+    ("007.08", "7.8.0", "7.9.0", "7.7.9", "8.0.0"),
+    (
+        "4294967295",
+        "4294967295.0.0",
+        "4294967295.9.9",
+        "4294967294.9.9",
+        "0.0.0",
+    ),
 ];
 
 /// Specifiers that hold no version.
@@ -116,18 +120,18 @@ const REFUSED: [(&str, u64); 62] = [
 ];
 
 /// Ranges, with versions that each holds and versions that it doesn't.
-const RANGES: [(&str, [&str; 2], [&str; 2]); 11] = [
-    ("0.7-1", ["0.7.0", "1.9.9"], ["0.6.9", "2.0.0"]),
-    ("1", ["1.0.0", "1.9.9"], ["0.9.9", "2.0.0"]),
-    ("1.2", ["1.2.0", "1.2.9"], ["1.1.9", "1.3.0"]),
-    ("1.2.3", ["1.2.3", "1.2.3+7"], ["1.2.2", "1.2.4"]),
-    ("0.0-0.1", ["0.0.0", "0.1.9"], ["0.2.0", "1.0.0"]),
-    ("1.2.3-1.2", ["1.2.3", "1.2.9"], ["1.2.2", "1.3.0"]),
-    ("*-1.2", ["0.0.0", "1.2.9"], ["1.3.0", "2.0.0"]),
-    ("1.2-*", ["1.2.0", "4294967295.0.0"], ["1.1.9", "0.0.0"]),
-    (" v1 -v2.0 ", ["1.0.0", "2.0.9"], ["0.9.9", "2.1.0"]),
-    (" *", ["0.0.0", "4294967295.0.0"], ["", ""]),
-    ("007- 0009.0", ["7.0.0", "9.0.9"], ["6.9.9", "9.1.0"]),
+const RANGES: [(&str, &str, &str, &str, &str); 11] = [
+    ("0.7-1", "0.7.0", "1.9.9", "0.6.9", "2.0.0"),
+    ("1", "1.0.0", "1.9.9", "0.9.9", "2.0.0"),
+    ("1.2", "1.2.0", "1.2.9", "1.1.9", "1.3.0"),
+    ("1.2.3", "1.2.3", "1.2.3+7", "1.2.2", "1.2.4"),
+    ("0.0-0.1", "0.0.0", "0.1.9", "0.2.0", "1.0.0"),
+    ("1.2.3-1.2", "1.2.3", "1.2.9", "1.2.2", "1.3.0"),
+    ("*-1.2", "0.0.0", "1.2.9", "1.3.0", "2.0.0"),
+    ("1.2-*", "1.2.0", "4294967295.0.0", "1.1.9", "0.0.0"),
+    (" v1 -v2.0 ", "1.0.0", "2.0.9", "0.9.9", "2.1.0"),
+    (" *", "0.0.0", "4294967295.0.0", "", ""),
+    ("007- 0009.0", "7.0.0", "9.0.9", "6.9.9", "9.1.0"),
 ];
 
 /// Texts that are no ranges, with their first bad places.
@@ -158,10 +162,27 @@ const REFUSED_RANGES: [(&str, u64); 24] = [
     ("1\t-2", 1),
 ];
 
-/// Whether the version of a text is allowed, None where the text is none.
-fn held(alloc: Global, allowed: &Allowed, name: &str) -> Option<bool> {
-    let v = Version::read(alloc, name).ok()?;
-    Some(allowed.holds(&v))
+/// Whether the version of a text is allowed. A text that is none isn't.
+fn held(alloc: Global, allowed: &Allowed, name: &str) -> bool {
+    match Version::read(alloc, name) {
+        Ok(v) => allowed.holds(&v),
+        Err(_) => false,
+    }
+}
+
+/// Whether two versions are allowed, and two others aren't.
+fn divides(
+    alloc: Global,
+    allowed: &Allowed,
+    first: &str,
+    last: &str,
+    below: &str,
+    above: &str,
+) -> bool {
+    held(alloc, allowed, first)
+        && held(alloc, allowed, last)
+        && !held(alloc, allowed, below)
+        && !held(alloc, allowed, above)
 }
 
 /// The place of a refusal.
@@ -174,14 +195,12 @@ fn place_of<T: Drop>(read: Result<T, SpecFault>) -> Option<u64> {
 
 #[test]
 fn specifiers_hold_their_intervals(rt: HostRuntime) -> Result<(), Fail> {
-    for (text, inside, outside) in SPECIFIERS {
+    for (text, first, last, below, above) in SPECIFIERS {
         let allowed = Allowed::Spec(Spec::read(rt.alloc(), text)?);
-        for name in inside {
-            assert_eq!(rt; held(rt.alloc(), &allowed, name), Some(true), "{text} {name}");
-        }
-        for name in outside {
-            assert_ne!(rt; held(rt.alloc(), &allowed, name), Some(true), "{text} {name}");
-        }
+        assert!(rt;
+            divides(rt.alloc(), &allowed, first, last, below, above),
+            "{text}"
+        );
     }
     Ok(())
 }
@@ -190,7 +209,14 @@ fn specifiers_hold_their_intervals(rt: HostRuntime) -> Result<(), Fail> {
 fn some_specifiers_hold_nothing(rt: HostRuntime) -> Result<(), Fail> {
     for text in EMPTY {
         let spec = Spec::read(rt.alloc(), text)?;
-        for triple in [[0, 0, 0], [0, 0, 1], [1, 2, 0], [1, 2, 1], [1, 5, 0], [2, 0, 0]] {
+        for triple in [
+            [0, 0, 0],
+            [0, 0, 1],
+            [1, 2, 0],
+            [1, 2, 1],
+            [1, 5, 0],
+            [2, 0, 0],
+        ] {
             assert!(rt; !spec.holds(&Version::of(rt.alloc(), triple)), "{text}");
         }
     }
@@ -200,48 +226,58 @@ fn some_specifiers_hold_nothing(rt: HostRuntime) -> Result<(), Fail> {
 #[test]
 fn refused_specifiers_have_their_places(rt: HostRuntime) {
     for (text, place) in REFUSED {
-        assert_eq!(rt; place_of(Spec::read(rt.alloc(), text)), Some(place), "{text}");
+        assert_eq!(rt;
+            place_of(Spec::read(rt.alloc(), text)),
+            Some(place),
+            "{text}"
+        );
     }
+}
+
+/// The range of a text, alone in its set.
+fn lone_range(alloc: Global, text: &str) -> Result<Allowed, SpecFault> {
+    let range = Range::read(alloc, text)?;
+    let mut set = RangeSet::make(alloc);
+    set.push(range)?;
+    Ok(Allowed::Ranges(set))
 }
 
 #[test]
 fn ranges_hold_what_their_bounds_leave(rt: HostRuntime) -> Result<(), Fail> {
-    for (text, inside, outside) in RANGES {
-        let range = Range::read(rt.alloc(), text)?;
-        assert_eq!(rt; range.text(), text);
-        let mut set = RangeSet::make(rt.alloc());
-        set.push(range)?;
-        let allowed = Allowed::Ranges(set);
-        for name in inside {
-            assert_eq!(rt; held(rt.alloc(), &allowed, name), Some(true), "{text} {name}");
-        }
-        for name in outside {
-            assert_ne!(rt; held(rt.alloc(), &allowed, name), Some(true), "{text} {name}");
-        }
+    for (text, first, last, below, above) in RANGES {
+        let allowed = lone_range(rt.alloc(), text)?;
+        assert!(rt;
+            divides(rt.alloc(), &allowed, first, last, below, above),
+            "{text}"
+        );
     }
+    Ok(())
+}
+
+#[test]
+fn a_range_keeps_its_text(rt: HostRuntime) -> Result<(), Fail> {
+    let range = Range::read(rt.alloc(), " v01 - 2")?;
+    assert_eq!(rt; range.text(), " v01 - 2");
     Ok(())
 }
 
 #[test]
 fn refused_ranges_have_their_places(rt: HostRuntime) {
     for (text, place) in REFUSED_RANGES {
-        assert_eq!(rt; place_of(Range::read(rt.alloc(), text)), Some(place), "{text}");
+        assert_eq!(rt;
+            place_of(Range::read(rt.alloc(), text)),
+            Some(place),
+            "{text}"
+        );
     }
 }
 
-/// The range of a text that is one.
-fn range(alloc: Global, text: &str) -> Result<Range, SpecFault> {
-    Range::read(alloc, text)
-}
-
 /// The ranges `0.2` and `1.1-1.3`, put together by each of the list's calls.
-fn two_ranges(alloc: Global) -> Result<RangeSet, SpecFault>
-    ensures { IfOk result (λ set. length set.items ≡ 2) }
-{
-    let first = range(alloc, "3")?;
-    let second = range(alloc, "1.1-1.3")?;
-    let third = range(alloc, "4")?;
-    let other = range(alloc, "0.2")?;
+fn two_ranges(alloc: Global) -> Result<RangeSet, SpecFault> {
+    let first = Range::read(alloc, "3")?;
+    let second = Range::read(alloc, "1.1-1.3")?;
+    let third = Range::read(alloc, "4")?;
+    let other = Range::read(alloc, "0.2")?;
     let mut set = RangeSet::make(alloc);
     set.reserve(1)?;
     set.push_spare(first);
@@ -256,7 +292,12 @@ fn two_ranges(alloc: Global) -> Result<RangeSet, SpecFault>
 fn a_set_holds_what_one_of_its_ranges_holds(rt: HostRuntime) -> Result<(), Fail> {
     let allowed = Allowed::Ranges(two_ranges(rt.alloc())?);
     let copied = allowed.copy(rt.alloc())?;
-    for (triple, held) in [([0, 2, 9], true), ([1, 2, 0], true), ([0, 3, 0], false), ([3, 0, 0], false)] {
+    for (triple, held) in [
+        ([0, 2, 9], true),
+        ([1, 2, 0], true),
+        ([0, 3, 0], false),
+        ([3, 0, 0], false),
+    ] {
         assert_eq!(rt; allowed.holds(&Version::of(rt.alloc(), triple)), held);
         assert_eq!(rt; copied.holds(&Version::of(rt.alloc(), triple)), held);
     }
