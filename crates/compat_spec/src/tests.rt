@@ -7,8 +7,8 @@ use jl_versions::Version;
 use std::alloc::Global;
 use std::test::Fail;
 
-/// Specifiers, with versions that each holds and versions that it doesn't.
-const SPECIFIERS: [(&str, &str, &str, &str, &str); 33] = [
+/// Carets, each with two versions that it holds and two that it doesn't.
+const CARETS: [(&str, &str, &str, &str, &str); 7] = [
     ("^1.2.3", "1.2.3", "1.99.0", "1.2.2", "2.0.0"),
     ("1.2.3", "1.2.3", "1.99.0", "1.2.2", "2.0.0"),
     ("^1.2", "1.2.0", "1.9.9", "1.1.9", "2.0.0"),
@@ -16,30 +16,15 @@ const SPECIFIERS: [(&str, &str, &str, &str, &str); 33] = [
     ("^0.2.3", "0.2.3", "0.2.9", "0.2.2", "0.3.0"),
     ("^0.2", "0.2.0", "0.2.9", "0.1.9", "0.3.0"),
     ("^0.0.3", "0.0.3", "0.0.3+7", "0.0.2", "0.0.4"),
+];
+
+/// Carets of zeros and numbers alone, each with two versions that it holds and two that it doesn't.
+const ZEROS: [(&str, &str, &str, &str, &str); 7] = [
     ("0.0.3", "0.0.3", "0.0.3+7", "0.0.2", "0.0.4"),
     ("^0.0", "0.0.0", "0.0.9", "0.1.0", "1.0.0"),
     ("0.0", "0.0.0", "0.0.9", "0.1.0", "1.0.0"),
     ("^0", "0.0.0", "0.9.9", "1.0.0", "1.0.1"),
     ("0.0.0", "0.0.0", "0.0.0-a", "0.0.1", "0.1.0"),
-    ("~1.2.3", "1.2.3", "1.2.9", "1.2.2", "1.3.0"),
-    ("~1.2", "1.2.0", "1.2.9", "1.1.9", "1.3.0"),
-    ("~1", "1.0.0", "1.9.9", "0.9.9", "2.0.0"),
-    ("~0.2.3", "0.2.3", "0.2.9", "0.2.2", "0.3.0"),
-    ("~0.0.3", "0.0.3", "0.0.3-a", "0.0.2", "0.0.4"),
-    ("~0.0", "0.0.0", "0.0.9", "0.1.0", "1.0.0"),
-    ("~0", "0.0.0", "0.9.9", "1.0.0", "1.0.1"),
-    ("=1.2", "1.2.0", "1.2.0-rc1", "1.1.9", "1.2.1"),
-    (">=1.2", "1.2.0", "4294967295.0.0", "1.1.9", "0.9.9"),
-    ("≥1.2", "1.2.0", "4294967295.0.0", "1.1.9", "0.9.9"),
-    ("<1.2", "0.0.0", "1.1.9", "1.2.0", "1.2.1"),
-    ("1.2.3 - 4.5.6", "1.2.3", "4.5.6", "1.2.2", "4.5.7"),
-    ("1.2.3 - 4.5", "1.2.3", "4.5.9", "1.2.2", "4.6.0"),
-    ("1.2.3 - 4", "1.2.3", "4.9.9", "1.2.2", "5.0.0"),
-    ("0.2 - 0", "0.2.0", "0.9.9", "0.1.9", "1.0.0"),
-    ("1.2, 2", "1.9.0", "2.0.0", "1.1.9", "3.0.0"),
-    (" v1  -  v2.1 ", "1.0.0", "2.1.9", "0.9.9", "2.2.0"),
-    (" ^ v1.2 ,~2.3", "1.9.9", "2.3.9", "2.2.9", "2.4.0"),
-    ("<1,= 2,*,3", "0.0.0", "1.5.0", "", ""),
     ("007.08", "7.8.0", "7.9.0", "7.7.9", "8.0.0"),
     (
         "4294967295",
@@ -48,6 +33,37 @@ const SPECIFIERS: [(&str, &str, &str, &str, &str); 33] = [
         "4294967294.9.9",
         "0.0.0",
     ),
+];
+
+/// Tildes, each with two versions that it holds and two that it doesn't.
+const TILDES: [(&str, &str, &str, &str, &str); 7] = [
+    ("~1.2.3", "1.2.3", "1.2.9", "1.2.2", "1.3.0"),
+    ("~1.2", "1.2.0", "1.2.9", "1.1.9", "1.3.0"),
+    ("~1", "1.0.0", "1.9.9", "0.9.9", "2.0.0"),
+    ("~0.2.3", "0.2.3", "0.2.9", "0.2.2", "0.3.0"),
+    ("~0.0.3", "0.0.3", "0.0.3-a", "0.0.2", "0.0.4"),
+    ("~0.0", "0.0.0", "0.0.9", "0.1.0", "1.0.0"),
+    ("~0", "0.0.0", "0.9.9", "1.0.0", "1.0.1"),
+];
+
+/// Operators of an order, each with two versions that it holds and two that it doesn't.
+const SIGNS: [(&str, &str, &str, &str, &str); 4] = [
+    ("=1.2", "1.2.0", "1.2.0-rc1", "1.1.9", "1.2.1"),
+    (">=1.2", "1.2.0", "4294967295.0.0", "1.1.9", "0.9.9"),
+    ("≥1.2", "1.2.0", "4294967295.0.0", "1.1.9", "0.9.9"),
+    ("<1.2", "0.0.0", "1.1.9", "1.2.0", "1.2.1"),
+];
+
+/// Hyphens and unions, each with two versions that it holds and two that it doesn't.
+const HYPHENS: [(&str, &str, &str, &str, &str); 8] = [
+    ("1.2.3 - 4.5.6", "1.2.3", "4.5.6", "1.2.2", "4.5.7"),
+    ("1.2.3 - 4.5", "1.2.3", "4.5.9", "1.2.2", "4.6.0"),
+    ("1.2.3 - 4", "1.2.3", "4.9.9", "1.2.2", "5.0.0"),
+    ("0.2 - 0", "0.2.0", "0.9.9", "0.1.9", "1.0.0"),
+    ("1.2, 2", "1.9.0", "2.0.0", "1.1.9", "3.0.0"),
+    (" v1  -  v2.1 ", "1.0.0", "2.1.9", "0.9.9", "2.2.0"),
+    (" ^ v1.2 ,~2.3", "1.9.9", "2.3.9", "2.2.9", "2.4.0"),
+    ("<1,= 2,*,3", "0.0.0", "1.5.0", "", ""),
 ];
 
 /// Specifiers that hold no version.
@@ -193,10 +209,64 @@ fn place_of<T: Drop>(read: Result<T, SpecFault>) -> Option<u64> {
     }
 }
 
+/// The specifier of a text.
+fn lone_specifier(alloc: Global, text: &str) -> Result<Allowed, SpecFault> {
+    let spec = Spec::read(alloc, text)?;
+    Ok(Allowed::Spec(spec))
+}
+
 #[test]
-fn specifiers_hold_their_intervals(rt: HostRuntime) -> Result<(), Fail> {
-    for (text, first, last, below, above) in SPECIFIERS {
-        let allowed = Allowed::Spec(Spec::read(rt.alloc(), text)?);
+fn carets_raise_the_first_number_that_is_not_zero(rt: HostRuntime) -> Result<(), Fail> {
+    for (text, first, last, below, above) in CARETS {
+        let allowed = lone_specifier(rt.alloc(), text)?;
+        assert!(rt;
+            divides(rt.alloc(), &allowed, first, last, below, above),
+            "{text}"
+        );
+    }
+    Ok(())
+}
+
+#[test]
+fn zeros_and_numbers_alone_are_carets(rt: HostRuntime) -> Result<(), Fail> {
+    for (text, first, last, below, above) in ZEROS {
+        let allowed = lone_specifier(rt.alloc(), text)?;
+        assert!(rt;
+            divides(rt.alloc(), &allowed, first, last, below, above),
+            "{text}"
+        );
+    }
+    Ok(())
+}
+
+#[test]
+fn tildes_raise_the_minor_number(rt: HostRuntime) -> Result<(), Fail> {
+    for (text, first, last, below, above) in TILDES {
+        let allowed = lone_specifier(rt.alloc(), text)?;
+        assert!(rt;
+            divides(rt.alloc(), &allowed, first, last, below, above),
+            "{text}"
+        );
+    }
+    Ok(())
+}
+
+#[test]
+fn signs_are_an_order(rt: HostRuntime) -> Result<(), Fail> {
+    for (text, first, last, below, above) in SIGNS {
+        let allowed = lone_specifier(rt.alloc(), text)?;
+        assert!(rt;
+            divides(rt.alloc(), &allowed, first, last, below, above),
+            "{text}"
+        );
+    }
+    Ok(())
+}
+
+#[test]
+fn hyphens_and_unions_hold_both_ends(rt: HostRuntime) -> Result<(), Fail> {
+    for (text, first, last, below, above) in HYPHENS {
+        let allowed = lone_specifier(rt.alloc(), text)?;
         assert!(rt;
             divides(rt.alloc(), &allowed, first, last, below, above),
             "{text}"
