@@ -1,5 +1,5 @@
 -- A triple against the ends of intervals, and against numbers that leave some of it open.
-use Rattle.std.proofs.Common.{◌≡◌, ℕ, suc, ◌+◌, ◌<◌, ◌≤◌, Bool, true, false, not, List, [], ◌∷◌, Some, refl, arith}
+use Rattle.std.proofs.Common.{◌≡◌, ℕ, not, List, [], ◌∷◌, Some, refl, arith}
 use Rattle.std.proofs.lemmas.Bool.Decides.{nat_tests}
 use Rattle.compat_spec.specs.declared.numbers.Numbers.{Numbers}
 use Rattle.compat_spec.specs.declared.numbers.Numbers.TheVariants.{Major, Minor, Patch}

@@ -1,17 +1,16 @@
 -- Numbers that are read byte by byte are those of the word.
-use Rattle.std.proofs.Common.{◌≡◌, ◌≢◌, ℕ, suc, ◌+◌, ◌-◌, ◌*◌, ◌^◌, ◌<◌, ◌≤◌, Bool, true, false, cond, eqb, ltb, ◌&&◌, List, [], ◌∷◌, map, Option, Some, None, refl, sym, ap, subst, ◌∙◌, arith, inl, inr}
+use Rattle.std.proofs.Common.{◌≡◌, ℕ, ◌+◌, ◌-◌, ◌*◌, ◌^◌, ◌<◌, ◌≤◌, Bool, true, false, cond, eqb, ltb, ◌&&◌, List, [], ◌∷◌, map, Option, Some, None, refl, sym, ap, subst, ◌∙◌, arith, inl, inr}
 use Rattle.std.specs.List.{list_all}
 use Rattle.std.specs.Char.{is_ascii_digit}
-use Rattle.std.proofs.lemmas.Bool.{eqb-true, le-ltb, lt-ltb, ltb-true, ltb-false, cases_Bool}
+use Rattle.std.proofs.lemmas.Bool.{le-ltb, lt-ltb, ltb-false, cases_Bool}
 use Rattle.std.proofs.lemmas.Bool.Decides.{eqb_tells, nat_tests}
 use Rattle.compat_spec.specs.declared.numbers.Numbers.{Numbers}
-use Rattle.compat_spec.specs.declared.numbers.Numbers.TheVariants.{Major, Minor, Patch}
 use Rattle.compat_spec.specs.declared.numbers.Begun.{Begun}
 use Rattle.compat_spec.specs.declared.numbers.Begun.TheVariants.{Nothing, AfterMajor, AfterMinor}
 use Rattle.compat_spec.specs.declared.numbers.Reading.{Reading}
 use Rattle.compat_spec.specs.declared.numbers.Reading.TheVariants.{Awaiting, Digits}
-use Rattle.compat_spec.specs.Pieces.{◌>>=◌, pieces}
-use Rattle.compat_spec.specs.Numbers.{value_after, number_of, gathered, without_v, numbers_of}
+use Rattle.compat_spec.specs.Pieces.{◌>>=◌}
+use Rattle.compat_spec.specs.Numbers.{value_after, number_of, gathered, numbers_of}
 use Rattle.compat_spec.specs.NumberMachine.{numbers_step, numbers_end, dot_step, digit_step}
 use Rattle.compat_spec.proofs.Cuts.{before, behind, pieces_are}
 

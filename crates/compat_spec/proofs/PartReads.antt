@@ -1,25 +1,23 @@
 -- A part that is read byte by byte is the part of its text.
-use Rattle.std.proofs.Common.{◌≡◌, ◌≢◌, ℕ, Bool, true, false, cond, eqb, ◌&&◌, List, [], ◌∷◌, map, Option, Some, None, refl, sym, ap, subst, ◌∙◌, inl, inr}
+use Rattle.std.proofs.Common.{◌≡◌, ℕ, true, false, cond, eqb, List, [], ◌∷◌, Option, Some, None, refl, sym, ap, subst, ◌∙◌, inl, inr}
 use Rattle.std.specs.Prelude.{codes}
 use Rattle.std.proofs.lemmas.Bool.{cond-false}
 use Rattle.std.proofs.lemmas.Bool.Decides.{eqb_tells}
 use Rattle.std.specs.Char.{is_ascii_digit}
 use Rattle.compat_spec.specs.declared.numbers.Numbers.{Numbers}
-use Rattle.compat_spec.specs.declared.numbers.Begun.TheVariants.{Nothing}
 use Rattle.compat_spec.specs.declared.numbers.Reading.{Reading}
-use Rattle.compat_spec.specs.declared.numbers.Reading.TheVariants.{Awaiting, Digits}
 use Rattle.compat_spec.specs.declared.part.Part.{Part}
 use Rattle.compat_spec.specs.declared.part.Part.TheVariants as parts
 use Rattle.compat_spec.specs.declared.part.Lead.{Lead}
 use Rattle.compat_spec.specs.declared.part.Lead.TheVariants as leads
 use Rattle.compat_spec.specs.declared.part.Stage.{Stage}
 use Rattle.compat_spec.specs.declared.part.Stage.TheVariants.{Before, Greater, Wide, Wider, Signed, Within, Spaced, Hyphen, Done}
-use Rattle.compat_spec.specs.Pieces.{◌>>=◌, pieces, filled, words, is_text, without_prefix}
-use Rattle.compat_spec.specs.Numbers.{number_of, gathered, numbers_of}
+use Rattle.compat_spec.specs.Pieces.{◌>>=◌, filled, words, is_text, without_prefix}
+use Rattle.compat_spec.specs.Numbers.{numbers_of}
 use Rattle.compat_spec.specs.NumberMachine.{numbers_step, numbers_end}
-use Rattle.compat_spec.specs.PartMachine.{made_by, stage_after, awaiting, within_step, operand_step, first_step, space_step, byte_step, part_step, part_end}
+use Rattle.compat_spec.specs.PartMachine.{made_by, stage_after, awaiting, within_step, operand_step, byte_step, part_step, part_end}
 use Rattle.compat_spec.specs.Specifiers.{Operator, operator, operators, operand, plain, by_operators, part_of}
-use Rattle.compat_spec.proofs.Cuts.{before, behind, pieces_are, words_are, words_begin, nothing, bind_none, bind_through}
+use Rattle.compat_spec.proofs.Cuts.{before, behind, words_are, words_begin, nothing, bind_none, bind_through}
 use Rattle.compat_spec.proofs.NumberReads.{numbers_from, numbers_from-end, numbers_from-step, numbers_of-v, numbers_of-plain, numbers_of-none}
 
 -- a part after which there are no more words

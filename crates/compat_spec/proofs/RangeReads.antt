@@ -1,5 +1,5 @@
 -- A range that is read byte by byte is that of its text.
-use Rattle.std.proofs.Common.{◌≡◌, ◌≢◌, ℕ, Bool, true, false, cond, eqb, List, [], ◌∷◌, length, Option, Some, None, refl, sym, ap, subst, ◌∙◌, inl, inr}
+use Rattle.std.proofs.Common.{◌≡◌, ℕ, false, eqb, List, [], ◌∷◌, length, Option, Some, None, refl, sym, ap, subst, ◌∙◌, inl, inr}
 use Rattle.std.specs.Prelude.{IsSome, codes}
 use Rattle.std.proofs.lemmas.Bool.{cond-false}
 use Rattle.std.proofs.lemmas.Bool.Decides.{eqb_tells}
@@ -14,12 +14,12 @@ use Rattle.compat_spec.specs.declared.range.Piece.TheVariants.{Open, Within, Clo
 use Rattle.compat_spec.specs.declared.range.Side.{Side}
 use Rattle.compat_spec.specs.declared.range.Side.TheVariants.{Lower, Upper}
 use Rattle.compat_spec.specs.declared.range.Stage.{Stage}
-use Rattle.compat_spec.specs.Pieces.{◌>>=◌, pieces, filled, words, is_text}
+use Rattle.compat_spec.specs.Pieces.{◌>>=◌, filled, words, is_text}
 use Rattle.compat_spec.specs.Numbers.{numbers_of}
 use Rattle.compat_spec.specs.NumberMachine.{numbers_step, numbers_end}
 use Rattle.compat_spec.specs.PartMachine.{awaiting}
-use Rattle.compat_spec.specs.Ranges.{Bounds, bounds, bound_of, bound_in, bounds_of, range_of, IsRange}
-use Rattle.compat_spec.specs.RangeMachine.{within_step, open_step, piece_space, piece_byte, piece_step, piece_end, stage, hyphen_step, range_step, closed, range_end, range_start}
+use Rattle.compat_spec.specs.Ranges.{Bounds, bounds, bound_in, bounds_of, range_of, IsRange}
+use Rattle.compat_spec.specs.RangeMachine.{within_step, open_step, piece_byte, piece_step, piece_end, stage, hyphen_step, range_step, closed, range_end, range_start}
 use Rattle.jl_versions.specs.Machine.{run, Accepts, IsFirstBadOf, unended_first_bad}
 use Rattle.compat_spec.proofs.Cuts.{before, behind, pieces_are, words_are, words_begin, bind_none, bind_through}
 use Rattle.compat_spec.proofs.NumberReads.{numbers_from, numbers_from-end, numbers_from-step, numbers_of-v, numbers_of-plain, numbers_of-none}

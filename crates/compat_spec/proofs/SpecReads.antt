@@ -1,14 +1,13 @@
 -- A specifier that is read byte by byte is that of its text.
-use Rattle.std.proofs.Common.{length, ◌≡◌, ◌≢◌, ℕ, Bool, true, false, cond, eqb, List, [], ◌∷◌, ◌++◌, map, Option, Some, None, refl, sym, ap, subst, ◌∙◌, inl, inr, append_assoc}
+use Rattle.std.proofs.Common.{length, ◌≡◌, ℕ, false, eqb, List, [], ◌∷◌, ◌++◌, map, Option, Some, None, refl, sym, ap, subst, ◌∙◌, inl, inr, append_assoc}
 use Rattle.std.specs.Prelude.{IsSome}
-use Rattle.std.proofs.lemmas.Bool.{cond-false}
 use Rattle.std.proofs.lemmas.Bool.Decides.{eqb_tells}
 use Rattle.compat_spec.specs.declared.numbers.Begun.TheVariants.{Nothing, AfterMajor, AfterMinor}
 use Rattle.compat_spec.specs.declared.numbers.Reading.TheVariants.{Awaiting, Digits}
 use Rattle.compat_spec.specs.declared.part.Part.{Part}
 use Rattle.compat_spec.specs.declared.part.Stage.{Stage}
 use Rattle.compat_spec.specs.declared.part.Stage.TheVariants.{Before, Greater, Wide, Wider, Signed, Within, Spaced, Hyphen, Done}
-use Rattle.compat_spec.specs.Pieces.{◌>>=◌, pieces, all_some}
+use Rattle.compat_spec.specs.Pieces.{◌>>=◌, all_some}
 use Rattle.compat_spec.specs.NumberMachine.{numbers_step}
 use Rattle.compat_spec.specs.PartMachine.{part_step, part_end}
 use Rattle.compat_spec.specs.SpecMachine.{Progress, progress, specifier_step, specifier_end, specifier_start}

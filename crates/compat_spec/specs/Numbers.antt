@@ -2,7 +2,7 @@
 -- zeros are allowed (own rule; the form is that of Pkg, Compatibility).
 --     number_of digits   the number that digits stand for
 --     numbers_of word    the numbers that a word stands for
-use Rattle.std.specs.Prelude.{ℕ, ◌+◌, ◌-◌, ◌*◌, ◌^◌, Bool, not, List, [], ◌∷◌, map, Option, None, Some, nat_lt, ◌==◌, ◌&&◌, if◌then◌else◌}
+use Rattle.std.specs.Prelude.{ℕ, ◌+◌, ◌-◌, ◌*◌, ◌^◌, not, List, [], ◌∷◌, map, Option, None, Some, nat_lt, ◌==◌, ◌&&◌, if◌then◌else◌}
 use Rattle.std.specs.List.{list_all}
 use Rattle.std.specs.Char.{is_ascii_digit}
 use Rattle.compat_spec.specs.declared.numbers.Numbers.{Numbers}

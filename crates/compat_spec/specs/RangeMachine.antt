@@ -1,6 +1,5 @@
 -- The steps of reading a range, byte by byte.
 use Rattle.std.specs.Prelude.{◌≡◌, ℕ, Option, None, Some, ◌==◌, if◌then◌else◌}
-use Rattle.compat_spec.specs.declared.numbers.Numbers.{Numbers}
 use Rattle.compat_spec.specs.declared.numbers.Reading.{Reading}
 use Rattle.compat_spec.specs.declared.range.Bound.{Bound}
 use Rattle.compat_spec.specs.declared.range.Bound.TheVariants.{Any, Of}

@@ -2,7 +2,6 @@
 -- a bound, or two bounds with a hyphen between them; a bound is a star or numbers, and stands alone but for spaces.
 --     range_of text   the bounds of a range, None where the text is none
 use Rattle.std.specs.Prelude.{ℕ, List, [], ◌∷◌, Option, None, Some, if◌then◌else◌, codes, IsSome}
-use Rattle.compat_spec.specs.declared.numbers.Numbers.{Numbers}
 use Rattle.compat_spec.specs.declared.range.Bound.{Bound}
 use Rattle.compat_spec.specs.declared.range.Bound.TheVariants.{Any, Of}
 use Rattle.compat_spec.specs.Pieces.{◌>>=◌, pieces, words, is_text}

@@ -2,7 +2,7 @@
 -- spaces may stand is an own rule). A specifier is one or more parts joined by commas. A part is an operator
 -- and one word of numbers; or a star; or numbers; or numbers, a hyphen and numbers, three words.
 --     specifier_of text   the parts of a specifier, None where the text is none
-use Rattle.std.specs.Prelude.{ℕ, List, [], ◌∷◌, map, Option, None, Some, ◌==◌, if◌then◌else◌, codes, IsSome}
+use Rattle.std.specs.Prelude.{ℕ, List, [], ◌∷◌, map, Option, None, Some, if◌then◌else◌, codes, IsSome}
 use Rattle.compat_spec.specs.declared.numbers.Numbers.{Numbers}
 use Rattle.compat_spec.specs.declared.part.Part.{Part}
 use Rattle.compat_spec.specs.declared.part.Part.TheVariants.{Caret, Tilde, Equal, AtLeast, Below, Between, Every}

@@ -1,5 +1,5 @@
 -- The machine's step is the code's, and where it stops or stands at no end is the first bad place.
-use Rattle.std.proofs.Common.{List, ℕ, ap, sym, subst, ◌∙◌, arith, length, ◌≤◌}
+use Rattle.std.proofs.Common.{ap, subst, ◌∙◌}
 use Rattle.std.proofs.lemmas.List.{take_more}
 use Rattle.jl_versions.specs.Machine.{run, run-snoc, IsFirstBadOf, stopped_first_bad}
 use Rattle.compat_spec.specs.SpecMachine.{progress, specifier_step, specifier_start}
