@@ -1,20 +1,19 @@
 -- From the grammar to the machine: what a text means is what the machine gives for it.
-use Rattle.std.proofs.Common.{◌≡◌, ◌≢◌, ℕ, ◌+◌, ◌*◌, ◌-◌, ◌^◌, ◌<◌, ◌≤◌, ◌⊎◌, Bool, true, false, List, [], ◌∷◌, ◌++◌, length, Option, Some, None, cond, refl, ap, sym, ◌∙◌, subst, arith, append_assoc, inl, inr}
+use Rattle.std.proofs.Common.{◌≡◌, ℕ, ◌+◌, ◌*◌, ◌-◌, ◌^◌, ◌<◌, ◌≤◌, true, List, [], ◌∷◌, ◌++◌, Option, Some, None, refl, ap, sym, ◌∙◌, subst, arith, append_assoc, inl, inr}
 use Rattle.std.specs.Prelude.{slice_index, unwrap_or, not, nat_eq, nat_le}
 use Rattle.std.specs.Option.{option_and_then}
 use Rattle.std.specs.List.{list_all}
 use Rattle.std.proofs.lemmas.List.{append-nil}
 use Rattle.std.proofs.lemmas.Bool.{and_parts, and_from, cond-true, cond-false, lt-ltb, or_left, or_right, ne_eqb, leb-true, not-true, false≢true}
-use Rattle.jl_versions.specs.Words.{is_digit, is_letter, is_ident_byte, number_of, number_after, is_word}
+use Rattle.jl_versions.specs.Words.{is_digit, is_letter, is_ident_byte, number_after}
 use Rattle.jl_versions.specs.Pieces.{ident_of}
-use Rattle.jl_versions.specs.Stages.{step, finish, triple_after, version_of, after_digit, after_ident, after_number}
-use Rattle.jl_versions.specs.Grammar.{IsNumeral, IsNumber, IsIdent, IsJoined, IsLabel, IsTail, AreNumbers, IsBody, Reads}
+use Rattle.jl_versions.specs.Stages.{step, finish, triple_after, version_of, after_ident}
+use Rattle.jl_versions.specs.Grammar.{IsNumber, IsIdent, IsJoined, IsLabel, IsTail, AreNumbers, IsBody, Reads}
 use Rattle.jl_versions.specs.declared.ident.Ident.{Ident}
 use Rattle.jl_versions.specs.declared.ident.Ident.TheVariants.{Number, Word}
 use Rattle.jl_versions.specs.declared.version.Version.{Version}
 use Rattle.jl_versions.specs.declared.reader.Earlier.{Earlier}
 use Rattle.jl_versions.specs.declared.reader.Earlier.TheVariants.{Nothing, Major, MajorMinor}
-use Rattle.jl_versions.specs.declared.reader.Stage.{Stage}
 use Rattle.jl_versions.specs.declared.reader.Stage.TheVariants.{Fresh, Figures, Label}
 use Rattle.jl_versions.proofs.Gives.{give, give_step}
 

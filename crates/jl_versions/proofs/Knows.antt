@@ -1,5 +1,5 @@
 -- The machine of Stages knows the version texts, and what follows for `read`.
-use Rattle.std.proofs.Common.{◌≡◌, ℕ, Bool, false, List, [], ◌∷◌, ◌++◌, length, take, Option, Some, None, Result, Ok, Err, refl, ap, sym, ◌∙◌, subst, inl, inr}
+use Rattle.std.proofs.Common.{◌≡◌, ℕ, false, List, [], ◌∷◌, ◌++◌, Some, None, Result, Ok, Err, refl, ap, sym, ◌∙◌, subst, inl, inr}
 use Rattle.std.specs.Option.{option_and_then}
 use Rattle.std.specs.Result.{IfOk, IfErr, MatchResult}
 use Rattle.std.specs.List.{list_all}
@@ -9,8 +9,8 @@ use Rattle.std.proofs.lemmas.Option.{none-some, same_Some}
 use Rattle.jl_versions.specs.Machine.{run, Accepts, IsFirstBadOf, stopped_first_bad, unended_first_bad}
 use Rattle.jl_versions.specs.Words.{is_digit}
 use Rattle.jl_versions.specs.Pieces.{ident_of}
-use Rattle.jl_versions.specs.Stages.{step, finish, labelled, version_of, triple_after}
-use Rattle.jl_versions.specs.Stops.{IsStop, IsOpenEnd, Tells}
+use Rattle.jl_versions.specs.Stages.{step, finish, labelled}
+use Rattle.jl_versions.specs.Stops.{Tells}
 use Rattle.jl_versions.specs.Grammar.{Reads, IsVersionText}
 use Rattle.jl_versions.specs.Refusals.{Refuses}
 use Rattle.jl_versions.specs.declared.fault.VersionFault.{VersionFault}

@@ -1,11 +1,11 @@
 -- Digits and the number that they mean, in std's words for what `parse` reads.
-use Rattle.std.proofs.Common.{◌≡◌, ℕ, ◌+◌, ◌*◌, ◌-◌, ◌^◌, ◌<◌, Bool, true, List, length, Option, Some, None, Result, Ok, Err, cond, rules, sym, ◌∙◌, arith, refl, ap}
+use Rattle.std.proofs.Common.{◌≡◌, ℕ, ◌^◌, ◌<◌, true, List, length, Some, None, Result, Ok, Err, cond, rules, sym, ◌∙◌, refl, ap}
 use Rattle.std.specs.Prelude.{nat_lt}
 use Rattle.std.specs.List.{list_all}
 use Rattle.std.specs.Result.{OkIff, result_ok}
 use Rattle.std.specs.Str.Parse.{ParsesUnsigned}
 use Rattle.std.proofs.lemmas.Str.Parse.{IsNumeralModel, numerals_by_fold, parse_digits}
-use Rattle.std.proofs.lemmas.Bool.{cond-true, cond-false, lt-ltb, le-ltb, ltb-true}
+use Rattle.std.proofs.lemmas.Bool.{cond-true, lt-ltb, ltb-true}
 use Rattle.jl_versions.specs.Words.{is_digit, number_of, number_after}
 
 pub own : IsNumeralModel (λ ds. list_all is_digit ds ≡ true) number_of

@@ -1,11 +1,11 @@
 -- A printed version reads as itself.
-use Rattle.std.proofs.Common.{◌≡◌, ◌≢◌, ℕ, ◌+◌, ◌^◌, ◌<◌, ◌≤◌, Bool, true, List, [], ◌∷◌, ◌++◌, length, refl, ap, sym, ◌∙◌, subst, arith, append_assoc, inl}
+use Rattle.std.proofs.Common.{◌≡◌, ◌≢◌, ℕ, ◌^◌, ◌<◌, ◌≤◌, true, List, [], ◌∷◌, ◌++◌, refl, sym, subst, arith, inl}
 use Rattle.std.specs.List.{list_all}
 use Rattle.std.specs.Fmt.{decimal}
 use Rattle.std.proofs.lemmas.List.{append-nil}
 use Rattle.std.proofs.lemmas.Bool.{and_parts, ltb-true}
 use Rattle.std.proofs.lemmas.Fmt.{digits_decimal, digits_value-decimal, decimal_by_steps}
-use Rattle.jl_versions.specs.Grammar.{IsNumeral, IsNumber, IsIdent, IsJoined, IsLabel, IsTail, AreNumbers, IsBody, Reads}
+use Rattle.jl_versions.specs.Grammar.{IsNumeral, IsIdent, IsJoined, IsLabel, Reads}
 use Rattle.jl_versions.specs.Printing.{ident_text, label_text, numbers_text, printed, is_label, IsVersion}
 use Rattle.jl_versions.specs.declared.ident.Ident.{Ident}
 use Rattle.jl_versions.specs.declared.ident.Ident.TheVariants.{Number, Word}

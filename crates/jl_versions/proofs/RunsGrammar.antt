@@ -1,16 +1,16 @@
 -- From the machine to the grammar: a text for which the machine gives a version means that version.
-use Rattle.std.proofs.Common.{◌≡◌, ◌≢◌, ℕ, ◌+◌, ◌*◌, ◌-◌, ◌^◌, ◌<◌, ◌≤◌, ◌⊎◌, Bool, true, false, List, [], ◌∷◌, ◌++◌, length, Option, Some, None, cond, refl, ap, sym, ◌∙◌, subst, arith, append_assoc, inl, inr, length-append}
-use Rattle.std.specs.Prelude.{slice_index, unwrap_or, not, nat_eq, nat_lt}
+use Rattle.std.proofs.Common.{◌≡◌, ◌≢◌, ℕ, ◌+◌, ◌*◌, ◌-◌, ◌^◌, ◌<◌, ◌≤◌, ◌⊎◌, true, List, [], ◌∷◌, ◌++◌, length, Option, Some, None, refl, ap, sym, ◌∙◌, subst, arith, append_assoc, inl, inr}
+use Rattle.std.specs.Prelude.{slice_index, unwrap_or, nat_eq, nat_lt}
 use Rattle.std.specs.Option.{option_and_then}
 use Rattle.std.specs.List.{list_all}
 use Rattle.std.proofs.lemmas.List.{append-nil}
 use Rattle.std.proofs.lemmas.List.Folds.{list_all-append}
-use Rattle.std.proofs.lemmas.Bool.{and_parts, and_from, ltb-true, eqb-true, not_from_false}
+use Rattle.std.proofs.lemmas.Bool.{and_from, ltb-true, eqb-true, not_from_false}
 use Rattle.std.proofs.lemmas.Option.{none-some, same_Some}
-use Rattle.jl_versions.specs.Words.{is_digit, is_letter, is_ident_byte, number_of, number_after, is_word, is_empty}
+use Rattle.jl_versions.specs.Words.{is_digit, is_ident_byte, number_of, number_after}
 use Rattle.jl_versions.specs.Pieces.{ident_of, number_ident}
-use Rattle.jl_versions.specs.Stages.{step, finish, triple_after, version_of, labelled, after_digit, after_ident, after_number, label_step, number_step, begin_build, next_number}
-use Rattle.jl_versions.specs.Grammar.{IsNumeral, IsNumber, IsIdent, IsJoined, IsLabel, IsTail, AreNumbers, IsBody, Reads}
+use Rattle.jl_versions.specs.Stages.{step, finish, triple_after, version_of, labelled, after_ident, after_number, label_step, number_step, begin_build, next_number}
+use Rattle.jl_versions.specs.Grammar.{IsNumber, IsIdent, IsJoined, IsLabel, IsTail, IsBody, Reads}
 use Rattle.jl_versions.specs.declared.ident.Ident.{Ident}
 use Rattle.jl_versions.specs.declared.ident.Ident.TheVariants.{Number, Word}
 use Rattle.jl_versions.specs.declared.version.Version.{Version}

@@ -3,7 +3,7 @@
 --     IsVersionText text      the text is a version text
 -- A version text is an optional `v`, one to three numbers joined by dots, then optionally `-` and identifiers, then
 -- optionally `+` and identifiers. Identifiers are joined by dots. A missing number is 0.
-use Rattle.std.specs.Prelude.{◌≡◌, ℕ, ◌+◌, ◌^◌, ◌<◌, ◌≤◌, ◌≢◌, ◌⊎◌, List, [], ◌∷◌, ◌++◌, length, IsTrue, slice_index}
+use Rattle.std.specs.Prelude.{◌≡◌, ℕ, ◌^◌, ◌<◌, ◌≤◌, ◌≢◌, ◌⊎◌, List, [], ◌∷◌, ◌++◌, length, IsTrue, slice_index}
 use Rattle.std.specs.List.{list_all}
 use Rattle.jl_versions.specs.Words.{is_digit, number_of, is_word}
 use Rattle.jl_versions.specs.declared.ident.Ident.{Ident}

@@ -1,5 +1,5 @@
 -- The identifier that one or more letters, digits or hyphens spell.
-use Rattle.std.specs.Prelude.{ℕ, ◌^◌, Bool, List, Option, None, Some, nat_lt, if◌then◌else◌}
+use Rattle.std.specs.Prelude.{ℕ, ◌^◌, List, Option, None, Some, nat_lt, if◌then◌else◌}
 use Rattle.std.specs.List.{list_all}
 use Rattle.jl_versions.specs.Words.{is_digit, number_of, is_empty}
 use Rattle.jl_versions.specs.declared.ident.Ident.{Ident}

@@ -1,7 +1,7 @@
 -- How a version is printed: three numbers, `-` and the pre-release if there is one, `+` and the build if there is one.
 --     printed v       the text
 --     IsVersion v     the parts are such as a version has: numbers in range, and words that are words
-use Rattle.std.specs.Prelude.{◌≡◌, ℕ, ◌^◌, ◌<◌, List, [], ◌∷◌, ◌++◌, IsTrue, Bool, true, nat_lt}
+use Rattle.std.specs.Prelude.{ℕ, ◌^◌, ◌<◌, List, [], ◌∷◌, ◌++◌, IsTrue, Bool, nat_lt}
 use Rattle.std.specs.List.{list_all}
 use Rattle.std.specs.Fmt.{decimal}
 use Rattle.jl_versions.specs.Words.{is_word}

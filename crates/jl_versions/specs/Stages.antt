@@ -1,10 +1,8 @@
 -- The machine that reads version texts byte by byte. The rule is `Reads` of Grammar; this says where each byte leads.
-use Rattle.std.specs.Prelude.{ℕ, ◌+◌, ◌*◌, ◌-◌, ◌^◌, Bool, List, [], ◌∷◌, ◌++◌, Option, None, Some, nat_lt, ◌==◌, if◌then◌else◌, slice_index, unwrap_or}
+use Rattle.std.specs.Prelude.{ℕ, ◌+◌, ◌*◌, ◌-◌, ◌^◌, List, [], ◌∷◌, ◌++◌, Option, None, Some, nat_lt, ◌==◌, if◌then◌else◌, slice_index, unwrap_or}
 use Rattle.std.specs.Option.{option_and_then}
-use Rattle.std.specs.List.{list_all}
-use Rattle.jl_versions.specs.Words.{is_digit, is_ident_byte, number_of, is_empty}
+use Rattle.jl_versions.specs.Words.{is_digit, is_ident_byte}
 use Rattle.jl_versions.specs.declared.ident.Ident.{Ident}
-use Rattle.jl_versions.specs.declared.ident.Ident.TheVariants.{Number, Word}
 use Rattle.jl_versions.specs.declared.version.Version.{Version}
 use Rattle.jl_versions.specs.declared.reader.Earlier.{Earlier}
 use Rattle.jl_versions.specs.declared.reader.Earlier.TheVariants.{Nothing, Major, MajorMinor}

@@ -1,5 +1,5 @@
 -- Where the machine of Stages stops in a text.
-use Rattle.std.specs.Prelude.{◌≡◌, ℕ, ◌<◌, List, length, take, Option, None, Some, Result, Ok, Err, ◌⊎◌, slice_index}
+use Rattle.std.specs.Prelude.{◌≡◌, ℕ, ◌<◌, List, length, take, None, Some, Result, Ok, Err, ◌⊎◌, slice_index}
 use Rattle.jl_versions.specs.Machine.{run}
 use Rattle.jl_versions.specs.Stages.{step, finish}
 use Rattle.jl_versions.specs.declared.reader.Stage.{Stage}

@@ -35,7 +35,7 @@ impl Word {
         self.text.as_str()
     }
 
-    /// An equal word.
+    /// An equal word, unless memory runs out.
     pub(crate) fn copy(&self, alloc: Global) -> Result<Word, AllocError>
         ensures { IfOk result (λ word. word ≡ self.now) }
     {
@@ -55,7 +55,7 @@ pub enum Ident {
 }
 
 impl Ident {
-    /// An equal identifier.
+    /// An equal identifier, unless memory runs out.
     pub(crate) fn copy(&self, alloc: Global) -> Result<Ident, AllocError>
         ensures { IfOk result (λ ident. ident ≡ self.now) }
     {
@@ -107,7 +107,7 @@ impl Idents {
         Ok(())
     }
 
-    /// An equal list.
+    /// An equal list, unless memory runs out.
     pub(crate) fn copy(&self, alloc: Global) -> Result<Idents, AllocError>
         ensures { IfOk result (λ idents. idents ≡ self.now) }
     {

@@ -71,7 +71,7 @@ fn push_label(text: &mut String, sign: char, idents: &Idents) -> Result<(), Allo
 
 impl Version {
     /// The text of the version: the three numbers, `-` and the pre-release if there is one, `+` and
-    /// the build if there is one, without leading zeros. Reading it again gives the version.
+    /// the build if there is one, without leading zeros. Reading it again gives the version. Want of memory is the only refusal.
     pub fn print(&self, alloc: Global) -> Result<VersionText, AllocError>
         ensures text { IfOk result (λ text. text ≡ printed self.now) }
         ensures reads { IfOk result (λ text. Reads text self.now) }

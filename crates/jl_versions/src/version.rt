@@ -39,7 +39,7 @@ impl Version {
         [self.major, self.minor, self.patch]
     }
 
-    /// An equal version.
+    /// An equal version, unless memory runs out.
     pub fn copy(&self, alloc: Global) -> Result<Version, AllocError>
         ensures { IfOk result (λ copy. copy ≡ self.now) }
     {
