@@ -26,6 +26,13 @@ fn run_there(rt: HostRuntime, found: &Surroundings) -> u8 {
     let mut out = HostSink::new(rt.stdout());
     let mut err = HostSink::new(rt.stderr());
     let mut store = HostStore::new(rt);
-    let ended = run(alloc, found.words.as_slice(), &found.place, &mut store, &mut out, &mut err);
+    let ended = run(
+        alloc,
+        found.words.as_slice(),
+        &found.place,
+        &mut store,
+        &mut out,
+        &mut err,
+    );
     ended.status.code()
 }

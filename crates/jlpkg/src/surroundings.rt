@@ -2,10 +2,9 @@
 use pkg_top::{PlaceFault, place_from};
 use pkg_world::{Place, Text};
 use std::alloc::{AllocError, Global};
-use std::env;
 use std::env::VarError;
-use std::io;
 use std::rt::Env;
+use std::{env, io};
 
 /// The words of a command and its place.
 #[derive(Drop)]

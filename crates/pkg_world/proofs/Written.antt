@@ -7,8 +7,8 @@ use Rattle.std.proofs.lemmas.Map.Text.{is_eq-slice_cmp}
 use Rattle.std.proofs.lemmas.Slice.Eq.{bytes_eq-Decides}
 use Rattle.std.proofs.lemmas.Cmp.{nat_list_cmp_total, tied_itself, tied_back}
 use Rattle.pkg_world.specs.Path.{Path}
-use Rattle.pkg_world.specs.Tree.{Node, file, folder, Files, no_files, entry, find, files_in, below, at, Content, bytes, a_folder, nothing, content_of, holds, insert, Leaf, a_file, settled, opened, placed, with_leaf}
-use Rattle.pkg_world.specs.Writing.{SetsOnePath, IsBlocked, WritingLaw, BlockedLaw}
+use Rattle.pkg_world.specs.Tree.{Node, file, folder, Files, no_files, entry, find, files_in, below, Content, bytes, a_folder, content_of, insert, a_file, placed, with_leaf}
+use Rattle.pkg_world.specs.Writing.{WritingLaw, BlockedLaw}
 
 abbrev cmp : List ℕ → List ℕ → Ordering
 cmp = slice_cmp nat_cmp

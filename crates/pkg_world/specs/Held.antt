@@ -1,5 +1,5 @@
 -- What the stores and sinks in memory hold, and which of their calls are to fail.
-use Rattle.std.specs.Prelude.{◌≡◌, ℕ, ◌+◌, ◌-◌, ◌^◌, ◌==◌, min, if◌then◌else◌, Bool, true, false, ◌&&◌, List, [], ◌∷◌, ◌++◌, take, Option, Some, None, IsNone}
+use Rattle.std.specs.Prelude.{◌≡◌, ℕ, ◌+◌, ◌-◌, ◌^◌, ◌==◌, min, if◌then◌else◌, Bool, true, false, List, [], ◌∷◌, ◌++◌, take, Option, Some, None}
 use Rattle.std.specs.List.{list_any}
 use Rattle.pkg_world.specs.declared.sure.SureStore.{SureStore}
 use Rattle.pkg_world.specs.declared.sure.SureSink.{SureSink}

@@ -1,6 +1,5 @@
 -- What the answers of a store and of a sink say. A store may not tell its files, a sink not its text: then they say nothing of them.
-use Rattle.std.specs.Prelude.{◌≡◌, ℕ, ◌+◌, ◌-◌, ◌^◌, ◌≤◌, min, List, ◌++◌, take, Option, Some, None, option_map, Bool, true, false}
-use Rattle.std.specs.Option.{option_and_then}
+use Rattle.std.specs.Prelude.{◌≡◌, ℕ, ◌+◌, ◌-◌, ◌^◌, ◌≤◌, min, List, ◌++◌, take, Option, Some, None, option_map}
 use Rattle.std.specs.List.Sorted.{IsStrictlySortedBy}
 use Rattle.std.specs.Ordering.{nat_cmp}
 use Rattle.std.specs.Cmp.Lexicographic.{slice_cmp}
@@ -15,7 +14,7 @@ use Rattle.pkg_world.specs.declared.store.WriteAnswer.TheVariants.{Done as Write
 use Rattle.pkg_world.specs.declared.sink.PutAnswer.{PutAnswer}
 use Rattle.pkg_world.specs.declared.sink.PutAnswer.TheVariants.{Done as PutDone, Failed as PutFailed, Memory as PutMemory}
 use Rattle.pkg_world.specs.Path.{Path}
-use Rattle.pkg_world.specs.Tree.{Node, file, folder, Files, names, holds, Content, bytes, a_folder, nothing, a_file, with_leaf}
+use Rattle.pkg_world.specs.Tree.{Node, file, folder, Files, names, Content, bytes, a_folder, nothing, a_file, with_leaf}
 
 -- a count rose: it is greater than before, or stands at its type's end
 abbrev pub Rose : ℕ → ℕ → Type 0

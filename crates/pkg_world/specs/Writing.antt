@@ -1,7 +1,7 @@
 -- What writing a file does, path by path.
-use Rattle.std.specs.Prelude.{◌≡◌, ℕ, ◌<◌, ◌⊎◌, List, length, take, Option, Some, None}
+use Rattle.std.specs.Prelude.{◌≡◌, ℕ, ◌<◌, ◌⊎◌, List, length, take, Some, None}
 use Rattle.pkg_world.specs.Path.{Path}
-use Rattle.pkg_world.specs.Tree.{Files, Content, bytes, a_folder, holds, a_file, with_leaf}
+use Rattle.pkg_world.specs.Tree.{Files, bytes, a_folder, holds, a_file, with_leaf}
 
 -- the path holds the bytes, each path above it is a folder, and every other path holds what it held
 abbrev pub SetsOnePath : Path → List ℕ → Files → Files → Type 0

@@ -1,4 +1,3 @@
-use Rattle.std.proofs.Common.{rules}
 use Rattle.pkg_world.proofs.ByName.{remove_by_name}
 use Rattle.pkg_world.proofs.named.Named.remove.Goals as goal
 

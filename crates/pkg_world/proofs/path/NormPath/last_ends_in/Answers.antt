@@ -1,10 +1,9 @@
-use Rattle.std.proofs.Common.{◌≡◌, ℕ, ◌-◌, ◌==◌, List, Option, Some, length, map, String, string_bytes, Global, slice_get, ap, sym, ◌∙◌, refl}
+use Rattle.std.proofs.Common.{◌≡◌, ℕ, ◌-◌, ◌==◌, List, Some, length, map, String, string_bytes, Global, slice_get, ap, sym, ◌∙◌}
 use Rattle.std.proofs.lemmas.Option.{slice_get-map}
 use Rattle.std.proofs.lemmas.List.{length-map}
-use Rattle.std.proofs.lemmas.Grind.{common_steps}
 use Rattle.std.specs.List.{ends_with}
 use Rattle.std.specs.Option.{option_copied}
-use Rattle.pkg_world.specs.Path.{Path, last_ends_in, part_ends_in}
+use Rattle.pkg_world.specs.Path.{Path, last_ends_in}
 use Rattle.pkg_world.proofs.path.NormPath.last_ends_in.Goals as goal
 
 last_is : (items : List (String Global)) (path : Path) (suffix : List ℕ) (part : String Global) → map string_bytes items ≡ path → slice_get items (length items - 1) ≡ Some part
