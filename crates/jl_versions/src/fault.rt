@@ -4,14 +4,17 @@ ghost use Rattle.std.specs.Prelude.{◌≡◌};
 ghost use Rattle.jl_versions.specs.declared.fault.VersionFault.TheVariants.{Memory};
 
 use std::alloc::AllocError;
+use thiserror::Error;
 
 /// Why `Version::read` gives no version.
-#[derive(Clone, Copy, Debug, PartialEq, Eq)]
+#[derive(Clone, Copy, Debug, PartialEq, Eq, Error)]
 pub enum VersionFault {
     /// The text is no version. The place is the length, in bytes, of its longest front that begins
     /// a version text.
+    #[error("no version from byte {0} on")]
     BadVersion(u64),
     /// Memory ran out.
+    #[error("no memory")]
     Memory,
 }
 

@@ -151,8 +151,7 @@ fn whole<F: Read>(alloc: Global, reader: &mut F) -> io::Result<Vec<u8>>
 {
     let mut buffer = make_buffer(alloc)?;
     let mut bytes = Vec::new(alloc);
-    // One turn more than there may be, which finds the end.
-    for _ in 0..=MOST_TURNS {
+    for _ in 0..MOST_TURNS {
         if take_turn(reader, buffer.as_mut_slice(), &mut bytes)? == 0 {
             return Ok(bytes);
         }

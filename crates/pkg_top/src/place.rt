@@ -36,8 +36,8 @@ impl From<AllocError> for PlaceFault {
 /// pieces are dropped; without one `.julia` in the home folder, and without both none), the load path and the project
 /// as they are, the folder of the standard libraries, the paths from the current folder.
 ///
-/// Errors: BadPath with the first text that rises above the root; BadJulia(0) exactly where Julia's text is handed in,
-/// which this version does not read yet; want of memory.
+/// Errors: BadPath with the first text that rises above the root; after the paths BadJulia(0) where Julia's text is
+/// handed in, which this version does not read yet; want of memory.
 pub fn place_from(
     alloc: Global,
     cwd: &str,
