@@ -11,10 +11,10 @@ use host_sink::HostSink;
 use host_store::HostStore;
 use pkg_top::run;
 use std::process::ExitCode;
-use surroundings::{Surroundings, refuse, surroundings};
+use surroundings::{Surroundings, read_surroundings, refuse};
 
 fn main(rt: HostRuntime) -> ExitCode {
-    match surroundings(&rt) {
+    match read_surroundings(&rt) {
         Ok(found) => ExitCode::from(run_there(rt, &found)),
         Err(refusal) => ExitCode::from(refuse(&rt, &refusal)),
     }

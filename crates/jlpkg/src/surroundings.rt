@@ -35,7 +35,7 @@ impl From<AllocError> for Refusal {
 
 /// The words of the command, and the place that its environment gives: `JULIA_DEPOT_PATH` or `HOME`, `JULIA_LOAD_PATH`,
 /// `JULIA_PROJECT` and `JLPKG_STDLIB`.
-pub fn surroundings<R: Env + AllocGlobal>(rt: &R) -> Result<Surroundings, Refusal> {
+pub fn read_surroundings<R: Env + AllocGlobal>(rt: &R) -> Result<Surroundings, Refusal> {
     let words = words(rt)?;
     let cwd = current_folder(rt)?;
     let place = place(rt, cwd.as_str())?;

@@ -54,6 +54,10 @@ OneMore old new = (new.made ≡ up old.made) × (new.failing.items ≡ old.faili
 abbrev pub Listed : ℕ → Calls → Calls → Type 0
 Listed nth old new = (new.made ≡ old.made) × (new.failing.items ≡ old.failing.items ++ nth ∷ [])
 
+-- neither a call nor a listed number more
+abbrev pub KeptCalls : Calls → Calls → Type 0
+KeptCalls old new = (new.made ≡ old.made) × (new.failing.items ≡ old.failing.items)
+
 -- no call was made, and none is to fail
 abbrev pub AreFresh : Calls → Type 0
 AreFresh calls = (calls.made ≡ 0) × (calls.failing.items ≡ [])
@@ -61,6 +65,10 @@ AreFresh calls = (calls.made ≡ 0) × (calls.failing.items ≡ [])
 -- the numbers and the listed calls of each method are as they were
 abbrev pub SameCalls : MemStore → MemStore → Type 0
 SameCalls old new = (new.reads ≡ old.reads) × (new.kinds ≡ old.kinds) × (new.lists ≡ old.lists) × (new.replaces ≡ old.replaces)
+
+-- each method has the calls and the listed numbers that it had
+abbrev pub KeptListed : MemStore → MemStore → Type 0
+KeptListed old new = KeptCalls old.reads new.reads × KeptCalls old.kinds new.kinds × KeptCalls old.lists new.lists × KeptCalls old.replaces new.replaces
 
 -- the counts of failed calls are as they were
 abbrev pub SameFaults : MemStore → MemStore → Type 0

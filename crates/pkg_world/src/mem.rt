@@ -2,7 +2,7 @@
 ghost use Rattle.std.specs.Prelude.{◌≡◌, ℕ, ◌≤◌, [], Some, None, IsSome, IfSome, IfOk, OnOk, OnErr, take};
 ghost use Rattle.pkg_world.specs.Tree.{a_file, some_folder, no_files, at, holds, with_leaf};
 ghost use Rattle.pkg_world.specs.Outside.{ReadGives, ReadFaultRose, KindGives, KindFaultRose, ListGives, ListFaultRose, ReplaceGives, WriteFaultRose, PutGives, PutFaultRose};
-ghost use Rattle.pkg_world.specs.Held.{mem_files, mem_text, up, counted, is_due, kept_at, OneMore, Listed, AreFresh, SameCalls, SameFaults, ListedAt, PutLeaves, read_failed, kind_failed, list_failed, write_failed};
+ghost use Rattle.pkg_world.specs.Held.{mem_files, mem_text, up, counted, is_due, kept_at, OneMore, Listed, AreFresh, SameCalls, SameFaults, KeptListed, ListedAt, PutLeaves, read_failed, kind_failed, list_failed, write_failed};
 
 use crate::path::NormPath;
 use crate::sink::{PutAnswer, Sink};
@@ -124,6 +124,7 @@ impl MemStore {
     /// memory, and then all is as before.
     pub fn fail_at(&mut self, _alloc: Global, call: StoreCall, nth: u64) -> Result<(), AllocError>
         ensures ok { OnOk result (ListedAt call nth self.old self.new) }
+        ensures err { OnErr result (KeptListed self.old self.new) }
         ensures files { mem_files self.new ≡ mem_files self.old }
         ensures faults { SameFaults self.old self.new }
     {
