@@ -8,3 +8,4 @@ pub mod Answers
 pub mod Owns
 pub mod Stanzas
 pub mod Views
+pub mod KeyOrder

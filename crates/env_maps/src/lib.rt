@@ -8,6 +8,7 @@ mod fault;
 mod file;
 mod halt;
 mod id;
+pub mod laws;
 mod manifest;
 mod manifest_path;
 mod project;
