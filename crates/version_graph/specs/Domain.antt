@@ -1,5 +1,5 @@
 -- Domains: for each package, which of its states are left. A domain is seen as its truth values, state by state.
-use Rattle.std.specs.Prelude.{◌≡◌, ℕ, ◌<◌, Bool, false, List, [], length, slice_index_or, count_by, sum_by}
+use Rattle.std.specs.Prelude.{◌≡◌, ℕ, ◌<◌, ◌^◌, Bool, false, List, [], length, slice_index_or, count_by, sum_by}
 use Rattle.version_graph.specs.Graph.{Graph, packages, states}
 
 abbrev pub Rows : Type 0
@@ -29,3 +29,7 @@ total d = sum_by count_true d
 pub record IsFor (g : Graph) (d : Rows) : Type 0 where
   pub each : length d ≡ packages g
   pub wide : (p : ℕ) → p < packages g → length (row d p) ≡ states g p
+
+-- each domain has fewer places than a 32-bit number can count
+pub record AreNarrow (d : Rows) : Type 0 where
+  pub narrow : (p : ℕ) → length (row d p) < 2 ^ 32

@@ -1,9 +1,8 @@
 -- How an instance is kept, and what its parts have to do with its meaning.
-use Rattle.std.specs.Prelude.{◌≡◌, ℕ, ◌<◌, ◌≤◌, Bool, true, ◌&&◌, ◌||◌, ◌==◌, List, [], length, map, slice_index, slice_index_or, sum}
+use Rattle.std.specs.Prelude.{◌≡◌, ℕ, ◌<◌, ◌≤◌, Bool, true, ◌&&◌, ◌||◌, ◌==◌, List, [], length, map, slice_index_or, sum}
 use Rattle.std.specs.List.{list_any}
 use Rattle.std.specs.List.Sorted.{IsStrictlyIncreasing}
 use Rattle.std.specs.declared.vec.Vec.{Vec}
-use Rattle.version_graph.specs.Domain.{count_true}
 use Rattle.version_graph.specs.Graph.{Graph, packages, states, has_pair, are_neighbours, IsListOf}
 
 -- the lists in a list of vectors
@@ -34,11 +33,6 @@ pub record IsStored {Y Z : Type 0} (g : Graph) (barred : List (Vec Bool Z)) (lis
   pub rows : length lists ≡ packages g
   pub neighbours : (p : ℕ) → p < packages g → IsListOf (are_neighbours g p) (slice_index_or (rows_of lists) p [])
   pub counted : total ≡ sum g.sizes
-
--- the counts of the domains' states
-pub record AreCounts (rows : List (List Bool)) (counts : List ℕ) : Type 0 where
-  pub each : length counts ≡ length rows
-  pub count : (p : ℕ) → p < length rows → slice_index counts p ≡ count_true (slice_index_or rows p [])
 
 -- whether the list has the number
 abbrev pub includes : List ℕ → ℕ → Bool

@@ -97,7 +97,7 @@ impl Instance {
         requires { p < packages self.now }
         ensures { result ≡ are_neighbours self.now p q }
     {
-        self.neighbours[p as usize].binary_search(&q).is_ok()
+        self.neighbours[p as usize].as_slice().contains(&q)
     }
 
     /// What the pairs of p and a lower package add.

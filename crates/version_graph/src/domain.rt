@@ -1,5 +1,5 @@
 //! The domains: which states of each package are left.
-ghost use Rattle.std.specs.Prelude.{◌≡◌, ◌<◌, ◌≤◌, ◌-◌, ◌∷◌, ◌++◌, ◌&&◌, ◌||◌, [], ℕ, true, false, not, length, take, IfOk, IsTrue, slice_set, slice_index_or};
+ghost use Rattle.std.specs.Prelude.{◌≡◌, ◌<◌, ◌≤◌, ◌-◌, ◌∷◌, ◌++◌, ◌&&◌, ◌||◌, ◌==◌, [], ℕ, true, false, not, length, take, IfOk, IsTrue, slice_set, slice_index_or};
 ghost use Rattle.version_graph.specs.Graph.{Graph, packages, states, is_offered, is_state};
 ghost use Rattle.version_graph.specs.Family.{narrowed};
 ghost use Rattle.version_graph.specs.Domain.{Rows, has, row, size_of, IsFor, count_true};
@@ -14,18 +14,18 @@ use std::marker::Model;
 #[derive(Drop)]
 pub struct Domains {
     rows: Vec<Vec<bool>>,
-    counts: Vec<u32>,
 }
 
 impl Model for Domains {
     ghost use Rattle.std.specs.Prelude.{List, Bool, ℕ, map};
-    ghost use Rattle.version_graph.specs.Stored.{rows_of, AreCounts};
+    ghost use Rattle.version_graph.specs.Stored.{rows_of};
+    ghost use Rattle.version_graph.specs.Domain.{AreNarrow};
 
     ghost Value = { List (List Bool) };
 
     ghost view = { λ a. rows_of a.rows.items };
 
-    ghost invariant = { λ a. AreCounts (rows_of a.rows.items) a.counts.items };
+    ghost invariant = { λ a. AreNarrow (rows_of a.rows.items) };
 }
 
 impl Domains {
@@ -36,13 +36,10 @@ impl Domains {
         ensures fresh { IfOk result (λ domains. (trail : History) → IsFresh instance.now trail → Holds instance.now domains trail) }
     {
         let mut rows = Vec::new(alloc);
-        let mut counts = Vec::new(alloc);
         for p in 0..instance.packages() {
-            let (row, count) = instance.offered(alloc, p)?;
-            rows.push(row)?;
-            counts.push(count)?;
+            rows.push(instance.offered(alloc, p)?)?;
         }
-        Ok(Domains { rows, counts })
+        Ok(Domains { rows })
     }
 
     /// Whether the domain of p has the state i. It takes no memory.
@@ -61,7 +58,7 @@ impl Domains {
         ensures none { result ≡ 0 → (i : ℕ) → has self.now p i ≡ false }
         ensures some { 0 < result → (i : ℕ) × (has self.now p i ≡ true) }
     {
-        self.counts[p as usize]
+        count_of(self.rows[p as usize].as_slice()) as u32
     }
 
     /// Takes the state i out of the domain of p and notes it last. It takes no memory.
@@ -72,9 +69,7 @@ impl Domains {
         ensures notes { trail.new.notes ≡ trail.old.notes ++ (p, i) ∷ [] }
         ensures keeps { (g : Graph) → Holds g self.old trail.old → Holds g self.new trail.new }
     {
-        let row = &mut self.rows[p as usize];
-        row[i as usize] = false;
-        self.counts[p as usize] -= 1;
+        self.set(p, i, false);
         trail.push(p, i);
     }
 
@@ -88,9 +83,7 @@ impl Domains {
         ensures keeps { (g : Graph) → Holds g self.old trail.old → Holds g self.new trail.new }
     {
         let (p, i) = trail.pop();
-        let row = &mut self.rows[p as usize];
-        row[i as usize] = true;
-        self.counts[p as usize] += 1;
+        self.set(p, i, true);
     }
 
     /// Cuts the domain of p to its state i, and notes each state that is taken out after the earlier notes.
@@ -102,11 +95,48 @@ impl Domains {
         ensures earlier { take (length trail.old.notes) trail.new.notes ≡ trail.old.notes }
         ensures keeps { (g : Graph) → Holds g self.old trail.old → Holds g self.new trail.new }
     {
-        let count = self.rows[p as usize].len() as u32;
-        for j in 0..count {
-            if j != i && self.has(p, j) {
-                self.take(p, j, trail);
-            }
+        for j in 0..self.width(p) {
+            self.take_other(p, i, j, trail);
         }
     }
+
+    /// How many states p has, taken out or not.
+    fn width(&self, p: u32) -> u32
+        requires { p < length self.now }
+        ensures { result ≡ length (row self.now p) }
+    {
+        self.rows[p as usize].len() as u32
+    }
+
+    /// Takes the state j out of the domain of p, if it is there and isn't the state i.
+    fn take_other(&mut self, p: u32, i: u32, j: u32, trail: &mut Trail)
+        requires known { p < length self.old }
+        requires state { j < length (row self.old p) }
+        requires held { (g : Graph) × Holds g self.old trail.old }
+        ensures cut { (q k : ℕ) → has self.new q k ≡ (has self.old q k && (not (is_state q k p j) || (j == i))) }
+        ensures longer { length trail.old.notes ≤ length trail.new.notes }
+        ensures earlier { take (length trail.old.notes) trail.new.notes ≡ trail.old.notes }
+        ensures keeps { (g : Graph) → Holds g self.old trail.old → Holds g self.new trail.new }
+    {
+        if j != i && self.has(p, j) {
+            self.take(p, j, trail);
+        }
+    }
+
+    /// Writes one place.
+    fn set(&mut self, p: u32, i: u32, value: bool)
+        requires known { p < length self.old }
+        requires state { i < length (row self.old p) }
+        ensures { self.new ≡ slice_set self.old p (slice_set (row self.old p) i value) }
+    {
+        let row = &mut self.rows[p as usize];
+        row[i as usize] = value;
+    }
+}
+
+/// How many of the values are true.
+fn count_of(row: &[bool]) -> usize
+    ensures { result ≡ count_true row.now }
+{
+    row.iter().filter(|value| **value).count()
 }

@@ -1,9 +1,9 @@
 //! The instance: packages with their states, and what is forbidden among them.
-ghost use Rattle.std.specs.Prelude.{◌≡◌, ◌≢◌, ◌<◌, ◌≤◌, ℕ, true, false, not, length, IfOk, MatchBool, Contains, slice_index, slice_index_or, sum};
+ghost use Rattle.std.specs.Prelude.{◌≡◌, ◌≢◌, ◌<◌, ◌≤◌, ◌&&◌, ℕ, true, false, not, length, IfOk, MatchBool, Contains, slice_index, slice_index_or, map, sum};
 ghost use Rattle.version_graph.specs.Graph.{packages, states, is_offered, is_forbidden, is_root, are_neighbours, IsGraph, IsListOf};
 ghost use Rattle.version_graph.specs.Needed.{AreNeeds};
 ghost use Rattle.version_graph.specs.Family.{Meets};
-ghost use Rattle.version_graph.specs.Domain.{has, IsFor, count_true};
+ghost use Rattle.version_graph.specs.Domain.{has, IsFor};
 
 use crate::domain::Domains;
 use crate::needing::Needs;
@@ -125,29 +125,40 @@ impl Instance {
         ensures { MatchBool result (Meets self.now (has domains.now) p i q) ((j : ℕ) → has domains.now q j ≡ true → is_forbidden self.now p i q j ≡ true) }
     {
         for j in 0..self.states(q) {
-            if domains.has(q, j) && self.allowed(p, i, q, j) {
+            if self.is_partner(p, i, q, j, domains) {
                 return true;
             }
         }
         false
     }
 
-    /// The states of p that aren't forbidden alone, and how many they are.
-    pub(crate) fn offered(&self, alloc: Global, p: u32) -> Result<(Vec<bool>, u32), AllocError>
-        requires { p < packages self.now }
-        ensures each { IfOk result (λ found. length found.0.items ≡ states self.now p) }
-        ensures row { IfOk result (λ found. (i : ℕ) → slice_index_or found.0.items i false ≡ is_offered self.now p i) }
-        ensures count { IfOk result (λ found. found.1 ≡ count_true found.0.items) }
+    /// Whether the state j is in q's domain and allowed with the state i of p.
+    fn is_partner(&self, p: u32, i: u32, q: u32, j: u32, domains: &Domains) -> bool
+        requires first { p < packages self.now }
+        requires first_state { i < states self.now p }
+        requires second { q < packages self.now }
+        requires second_state { j < states self.now q }
+        requires apart { p ≢ q }
+        requires made { IsFor self.now domains.now }
+        ensures { result ≡ (has domains.now q j && not (is_forbidden self.now p i q j)) }
     {
-        let mut row = Vec::new(alloc);
-        let mut count: u32 = 0;
-        let barred = &self.barred[p as usize];
-        for is_barred in barred {
-            row.push(!*is_barred)?;
-            if !*is_barred {
-                count += 1;
-            }
-        }
-        Ok((row, count))
+        domains.has(q, j) && self.allowed(p, i, q, j)
     }
+
+    /// The states of p that aren't forbidden alone.
+    pub(crate) fn offered(&self, alloc: Global, p: u32) -> Result<Vec<bool>, AllocError>
+        requires { p < packages self.now }
+        ensures each { IfOk result (λ row. length row.items ≡ states self.now p) }
+        ensures row { IfOk result (λ row. (i : ℕ) → slice_index_or row.items i false ≡ is_offered self.now p i) }
+    {
+        let row = flipped(alloc, self.barred[p as usize].as_slice())?;
+        Ok(row)
+    }
+}
+
+/// The opposite of each value.
+fn flipped(alloc: Global, values: &[bool]) -> Result<Vec<bool>, AllocError>
+    ensures { IfOk result (λ row. row.items ≡ map (λ b. not b) values.now) }
+{
+    values.iter().map(|value| !*value).collect(alloc)
 }

@@ -1,0 +1,4 @@
+pub mod FamilyLemmas
+pub mod GraphLemmas
+pub mod RowLemmas
+pub mod TrailLemmas
