@@ -1,19 +1,21 @@
 -- How the parts of an instance tell what is forbidden, and who is a neighbour of whom.
-use Rattle.std.proofs.Common.{◌≡◌, ◌≢◌, ℕ, zero, suc, ◌+◌, ◌*◌, ◌-◌, ◌<◌, ◌≤◌, Bool, true, false, not, cond, ◌&&◌, ◌||◌, List, [], ◌∷◌, ◌++◌, length, get_or, set, map, refl, sym, ◌∙◌, subst, ap, arith, ◌⊎◌, inl, inr, eqb, ltb, length-append, replicate}
+use Rattle.std.proofs.Common.{◌≡◌, ◌≢◌, ℕ, zero, suc, ◌+◌, ◌*◌, ◌-◌, ◌<◌, ◌≤◌, Bool, true, false, not, cond, ◌&&◌, ◌||◌, List, [], ◌∷◌, ◌++◌, length, get_or, set, map, take, drop, refl, sym, ◌∙◌, subst, ap, arith, ◌⊎◌, inl, inr, eqb, ltb, length-append, replicate}
 use Rattle.std.specs.declared.cmp.Ordering.{Ordering}
 use Rattle.std.specs.declared.cmp.Ordering.TheVariants.{Less, Equal, Greater}
 use Rattle.std.specs.Ordering.{nat_cmp, ordering_then, is_eq}
-use Rattle.std.specs.List.{list_any, range_with_len, Contains, filter}
+use Rattle.std.specs.List.{list_any, range_with_len, Contains, filter, insert}
 use Rattle.std.specs.List.Sorted.{IsStrictlyIncreasing}
 use Rattle.std.specs.declared.vec.Vec.{Vec}
 use Rattle.std.proofs.lemmas.Bool.{cases_lt, eq-eqb, eqb-true, ne_eqb, ltb-true, lt-ltb, le-ltb, ltb-false, and_from, and_parts, or_cases, cases_Bool, cases_order}
 use Rattle.std.proofs.lemmas.Bool.Decides.{eqb_tells, nat_tests}
-use Rattle.std.proofs.lemmas.List.{get_or-map, length-map, get_or_read, get_or_past}
+use Rattle.std.proofs.lemmas.List.{get_or-map, length-map, get_or_read, get_or_past, get_or-set_same, get_or-set_other, length-set, take-append-drop}
+use Rattle.std.proofs.lemmas.List.Edits.{get_or-insert_below, get_or-insert_at, get_or-insert_above, length-insert}
+use Rattle.std.proofs.lemmas.Map.Keys.{below_from_sorted, sorted_from_strictly_increasing}
 use Rattle.std.proofs.lemmas.Grind.{get_or_default_zero}
-use Rattle.std.proofs.lemmas.List.Folds.{list_any_at, Any-from_list_any}
+use Rattle.std.proofs.lemmas.List.Folds.{list_any_at, list_any_more, list_any-append, Any-from_list_any}
 use Rattle.std.proofs.lemmas.List.FromFn.{length-range_with_len, get_or-range_with_len}
 use Rattle.version_graph.specs.Graph.{Graph, packages, states, last, is_barred, has_pair, is_forbidden, is_offered, is_pair, are_neighbours, IsBetween, IsGraph, IsListOf, does_need, is_root}
-use Rattle.version_graph.specs.Stored.{rows_of, graph_of, IsListed, IsKept, IsStored, includes, pair_at, AreBelow, is_linked, AreLinked}
+use Rattle.version_graph.specs.Stored.{rows_of, graph_of, IsListed, IsKept, IsStored, includes, pair_at, AreBelow, is_linked, AreLinked, AreRising, AddsLink}
 
 -- the row of a list of vectors
 pub row-at : {T Z : Type 0} (vs : List (Vec T Z)) (p : ℕ) (v : Vec T Z) → p < length vs → get_or (rows_of vs) p [] ≡ (get_or vs p v).items
@@ -47,7 +49,7 @@ regroup true true c d = refl
 regroup true false c d = refl
 regroup false b c d = refl
 
-key_same : (x y : Key) → is_eq (key_cmp x y) ≡ ((eqb y.0 x.0 && eqb y.1 x.1) && (eqb y.2 x.2 && eqb y.3 x.3))
+pub key_same : (x y : Key) → is_eq (key_cmp x y) ≡ ((eqb y.0 x.0 && eqb y.1 x.1) && (eqb y.2 x.2 && eqb y.3 x.3))
 key_same x y =
   simp (is_eq-then, is_eq-nat) (regroup (eqb y.0 x.0) (eqb y.1 x.1) (eqb y.2 x.2) (eqb y.3 x.3))
 
@@ -235,3 +237,149 @@ offered-row sizes barred pairs k p known v at =
           ∙ sym (ap (λ x. x && (ltb i (get_or sizes p 0) && not (get_or (get_or (rows_of barred) p []) i false))) (lt-ltb _ _ known)
             ∙ ap (λ x. x && not (get_or (get_or (rows_of barred) p []) i false)) (le-ltb _ _ h))
     ])
+
+-- ---- linking rows
+
+list-any-or : (xs ys : List ℕ) (x : ℕ) → includes (xs ++ ys) x ≡ (includes xs x || includes ys x)
+list-any-or xs ys x = list_any-append (λ y. eqb y x) xs ys
+
+eqb-sym : (a b : ℕ) → eqb a b ≡ eqb b a
+eqb-sym a b = elim (eqb_tells a b) [ inl t ↦ t.0 ∙ sym (eq-eqb b a (sym t.1)) | inr t ↦ t.0 ∙ sym (ne_eqb b a (λ e. t.1 (sym e))) ]
+
+pub link-found : (xs : List ℕ) (q i : ℕ) → i < length xs → get_or xs i 0 ≡ q → (x : ℕ) → includes xs x ≡ (includes xs x || eqb x q)
+link-found xs q i h e x =
+  elim (eqb_tells x q) [
+    inl t ↦ let there = includes_at xs i x h (e ∙ sym t.1) in there ∙ sym (ap (λ b. b || eqb x q) there)
+  | inr t ↦ sym (ap (λ b. includes xs x || b) t.0 ∙ no_more (includes xs x))
+  ]
+  where
+  no_more : (a : Bool) → (a || false) ≡ a
+  no_more true = refl
+  no_more false = refl
+
+pub link-new : (xs : List ℕ) (i q : ℕ) → (x : ℕ) → includes (insert xs i q) x ≡ (includes xs x || eqb x q)
+link-new xs i q x =
+  list-any-or (take i xs) (q ∷ drop i xs) x
+  ∙ ap (λ b. includes (take i xs) x || (b || includes (drop i xs) x)) (eqb-sym q x)
+  ∙ shuffle (includes (take i xs) x) (eqb x q) (includes (drop i xs) x)
+  ∙ ap (λ b. b || eqb x q) (sym (list-any-or (take i xs) (drop i xs) x) ∙ ap (λ r. includes r x) (take-append-drop i xs))
+  where
+  shuffle : (a b c : Bool) → (a || (b || c)) ≡ ((a || c) || b)
+  shuffle true b c = refl
+  shuffle false true true = refl
+  shuffle false true false = refl
+  shuffle false false true = refl
+  shuffle false false false = refl
+
+pub rising-insert : (xs : List ℕ) (i q : ℕ) → IsStrictlyIncreasing xs → i ≤ length xs → ((k : ℕ) → k < i → get_or xs k 0 < q) →
+    ((k : ℕ) → i ≤ k → k < length xs → q < get_or xs k 0) → IsStrictlyIncreasing (insert xs i q)
+rising-insert xs i q up fits below above k h =
+  let long : length (insert xs i q) ≡ length xs + 1 = length-insert xs i q fits in
+  elim (cases_lt (k + 1) i) [
+    inl l ↦
+      let a = get_or-insert_below xs i q 0 k (omega arith) fits in
+      let b = get_or-insert_below xs i q 0 (k + 1) l fits in
+      rw (a, b) (up k (omega arith))
+  | inr l ↦ elim (cases_order (k + 1) i) [
+      inl e ↦
+        let a = get_or-insert_below xs i q 0 k (omega arith) fits in
+        let b = ap (λ n. get_or (insert xs i q) n 0) e ∙ get_or-insert_at xs i q 0 fits in
+        rw (a, b) (below k (omega arith))
+    | inr o ↦ elim o [
+        inl m ↦ absurd (omega arith)
+      | inr m ↦ elim (cases_order k i) [
+          inl e ↦
+            let a = ap (λ n. get_or (insert xs i q) n 0) e ∙ get_or-insert_at xs i q 0 fits in
+            let b = get_or-insert_above xs i q 0 k (omega arith) fits in
+            rw (a, b) (above k (omega arith) (omega (arith, long)))
+        | inr s ↦ elim s [
+            inl t ↦ absurd (omega arith)
+          | inr t ↦
+              let n = k - 1 in
+              let same : n + 1 ≡ k = omega arith in
+              let a : get_or (insert xs i q) k 0 ≡ get_or xs n 0 = ap (λ m. get_or (insert xs i q) m 0) (sym same) ∙ get_or-insert_above xs i q 0 n (omega arith) fits in
+              let b : get_or (insert xs i q) (k + 1) 0 ≡ get_or xs (n + 1) 0 = get_or-insert_above xs i q 0 k (omega arith) fits ∙ ap (λ m. get_or xs m 0) (sym same) in
+              rw (a, b) (up n (omega (arith, long)))
+          ]
+        ]
+      ]
+    ]
+  ]
+
+pub increasing-ordered : (xs : List ℕ) → IsStrictlyIncreasing xs → (i j : ℕ) → i ≤ j → j < length xs → get_or xs i 0 ≤ get_or xs j 0
+increasing-ordered xs up i j h l =
+  elim (cases_order i j) [
+    inl e ↦ omega (arith, ap (λ n. get_or xs n 0) e)
+  | inr o ↦ elim o [
+      inl m ↦ let b : get_or xs i 0 < get_or xs j 0 = below_from_sorted xs i j 0 (sorted_from_strictly_increasing xs up) m l in omega arith
+    | inr m ↦ absurd (omega arith)
+    ]
+  ]
+
+-- ---- rows that are written one at a time
+
+pub rising-set : (d : List (List ℕ)) (p : ℕ) (r : List ℕ) → p < length d → AreRising d → IsStrictlyIncreasing r → AreRising (set d p r)
+rising-set d p r known up new = record { rising = λ q h.
+  elim (eqb_tells q p) [
+    inl t ↦ subst (λ (x : List ℕ). IsStrictlyIncreasing x) (sym (ap (λ n. get_or (set d p r) n []) t.1 ∙ get_or-set_same d p r [] known)) new
+  | inr t ↦ subst (λ (x : List ℕ). IsStrictlyIncreasing x) (sym (get_or-set_other d p q r [] t.1)) (up.rising q (omega (arith, h, length-set d p r)))
+  ] }
+
+pub added-set : (d : List (List ℕ)) (p q : ℕ) (r : List ℕ) → p < length d → ((x : ℕ) → includes r x ≡ (includes (get_or d p []) x || eqb x q)) → AddsLink d (set d p r) p q
+added-set d p q r known new = record { linked = λ a b h.
+  elim (eqb_tells a p) [
+    inl t ↦
+      ap (λ x. includes x b) (ap (λ n. get_or (set d p r) n []) t.1 ∙ get_or-set_same d p r [] known) ∙ new b
+        ∙ ap (λ n. includes (get_or d n []) b || eqb b q) (sym t.1)
+        ∙ ap (λ v. includes (get_or d a []) b || (v && eqb b q)) (sym t.0)
+  | inr t ↦
+      ap (λ x. includes x b) (get_or-set_other d p a r [] t.1) ∙ sym (or_none (includes (get_or d a []) b))
+        ∙ ap (λ v. includes (get_or d a []) b || (v && eqb b q)) (sym t.0)
+  ] }
+  where
+  or_none : (a : Bool) → (a || false) ≡ a
+  or_none true = refl
+  or_none false = refl
+
+joined : (z a b c d : Bool) → ((z || (a && b)) || (c && d)) ≡ (z || ((a && b) || (d && c)))
+joined true a b c d = refl
+joined false true true c d = refl
+joined false true false true true = refl
+joined false true false true false = refl
+joined false true false false true = refl
+joined false true false false false = refl
+joined false false b true true = refl
+joined false false b true false = refl
+joined false false b false true = refl
+joined false false b false false = refl
+
+pub linked-step : (n : ℕ) (pairs : List Key) (k : ℕ) (r s t : List (List ℕ)) → k < length pairs → AreLinked n (take k pairs) r →
+    length t ≡ length r → length s ≡ length r → AreRising t →
+    AddsLink r s (pair_at pairs k).0 (pair_at pairs k).2 → AddsLink s t (pair_at pairs k).2 (pair_at pairs k).0 → AreLinked n (take (k + 1) pairs) t
+linked-step n pairs k r s t h l long mid up one two = record {
+  each = long ∙ l.each;
+  rising = λ p below. up.rising p (omega (arith, below, long, l.each));
+  linked = λ a b below.
+    let p = (pair_at pairs k).0 in
+    let q = (pair_at pairs k).2 in
+    two.linked a b (omega (arith, below, mid, l.each))
+    ∙ ap (λ v. v || (eqb a q && eqb b p)) (one.linked a b (omega (arith, below, l.each)))
+    ∙ ap (λ v. (v || (eqb a p && eqb b q)) || (eqb a q && eqb b p)) (l.linked a b below)
+    ∙ joined (is_linked (take k pairs) a b) (eqb a p) (eqb b q) (eqb a q) (eqb b p)
+    ∙ ap (λ v. is_linked (take k pairs) a b || ((v && eqb b q) || (eqb b p && eqb a q))) (eqb-sym a p)
+    ∙ ap (λ v. is_linked (take k pairs) a b || ((eqb p a && v) || (eqb b p && eqb a q))) (eqb-sym b q)
+    ∙ ap (λ v. is_linked (take k pairs) a b || ((eqb p a && eqb q b) || (v && eqb a q))) (eqb-sym b p)
+    ∙ ap (λ v. is_linked (take k pairs) a b || ((eqb p a && eqb q b) || (eqb p b && v))) (eqb-sym a q)
+    ∙ sym (list_any_more (λ (x : Key). (eqb x.0 a && eqb x.2 b) || (eqb x.0 b && eqb x.2 a)) pairs k (0, 0, 0, 0) h)
+}
+
+pub rising-from_linked : (n : ℕ) (pairs : List Key) (rows : List (List ℕ)) → AreLinked n pairs rows → AreRising rows
+rising-from_linked n pairs rows l = record { rising = λ p h. l.rising p (omega (arith, h, l.each)) }
+
+-- no row is linked by no pair
+pub linked-none : (n : ℕ) (rows : List (List ℕ)) → length rows ≡ n → ((p : ℕ) → p < n → get_or rows p [] ≡ []) → AreLinked n [] rows
+linked-none n rows each empty = record {
+  each = each;
+  rising = λ p h k below. absurd (omega (arith, below, ap length (empty p h)));
+  linked = λ p q h. ap (λ r. includes r q) (empty p h)
+}

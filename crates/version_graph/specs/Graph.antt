@@ -41,6 +41,10 @@ is_forbidden g p i q j = if nat_lt p q then has_pair g p i q j else has_pair g q
 abbrev pub is_pair : ℕ → ℕ → ℕ → ℕ → ℕ → ℕ → ℕ → ℕ → Bool
 is_pair a b c d p i q j = ((a == p && b == i) && (c == q && d == j)) || ((a == q && b == j) && (c == p && d == i))
 
+-- whether the two states are these two, in this order
+abbrev pub is_key : ℕ → ℕ → ℕ → ℕ → ℕ → ℕ → ℕ → ℕ → Bool
+is_key a b c d p i q j = (a == p && b == i) && (c == q && d == j)
+
 -- whether the state is this one
 abbrev pub is_state : ℕ → ℕ → ℕ → ℕ → Bool
 is_state q j p i = q == p && j == i

@@ -55,3 +55,11 @@ pub record AreLinked (n : ℕ) (pairs : List (ℕ × ℕ × ℕ × ℕ)) (rows :
   pub each : length rows ≡ n
   pub rising : (p : ℕ) → p < n → IsStrictlyIncreasing (slice_index_or rows p [])
   pub linked : (p q : ℕ) → p < n → includes (slice_index_or rows p []) q ≡ is_linked pairs p q
+
+-- each row rises
+pub record AreRising (rows : List (List ℕ)) : Type 0 where
+  pub rising : (p : ℕ) → p < length rows → IsStrictlyIncreasing (slice_index_or rows p [])
+
+-- the row of p has q besides, and every other row is as before
+pub record AddsLink (old new : List (List ℕ)) (p q : ℕ) : Type 0 where
+  pub linked : (a b : ℕ) → a < length old → includes (slice_index_or new a []) b ≡ (includes (slice_index_or old a []) b || (a == p && b == q))

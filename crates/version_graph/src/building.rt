@@ -1,12 +1,12 @@
 //! How an instance is made.
 ghost use Rattle.std.specs.Prelude.{◌≡◌, ◌≢◌, ◌<◌, ◌≤◌, ◌||◌, ◌^◌, ℕ, length, sum, slice_index, IfOk, IfErr, OnOk, OnErr};
-ghost use Rattle.version_graph.specs.Graph.{packages, states, is_barred, is_forbidden, is_state, is_pair, bits, cells, IsOpen, SameGraph};
+ghost use Rattle.version_graph.specs.Graph.{packages, states, is_barred, is_forbidden, is_state, is_pair, is_key, has_pair, bits, cells, IsOpen, SameGraph};
 ghost use Rattle.version_graph.specs.Answers.{CountsPass, SumsPass, IsMemory};
 
-use crate::counting::{neighbour_rows, open_rows, state_sum};
+use crate::counting::{listed_pairs, neighbour_rows, open_rows, state_sum};
 use crate::graph::Instance;
 use crate::limits::{GraphFault, LimitKind};
-use std::alloc::Global;
+use std::alloc::{AllocError, Global};
 use std::collections::BTreeSet;
 use std::marker::Model;
 
@@ -93,11 +93,29 @@ impl InstanceBuilder {
         ensures err { OnErr result (self.new ≡ self.old) }
         ensures memory { IfErr result IsMemory }
     {
-        let pair = if p < q { (p, i, q, j) } else { (q, j, p, i) };
-        match self.pairs.insert(pair) {
-            Ok(_) => Ok(()),
-            Err(_) => Err(GraphFault::Memory),
+        if p < q {
+            self.list_pair(p, i, q, j)
+        } else {
+            self.list_pair(q, j, p, i)
         }
+    }
+
+    /// Lists the pair, the lower package first.
+    fn list_pair(&mut self, p: u32, i: u32, q: u32, j: u32) -> Result<(), GraphFault>
+        requires below { p < q }
+        requires known { q < packages self.old }
+        requires first_state { i < states self.old p }
+        requires second_state { j < states self.old q }
+        ensures sizes { self.new.sizes ≡ self.old.sizes }
+        ensures barred { (a b : ℕ) → is_barred self.new a b ≡ is_barred self.old a b }
+        ensures ok { OnOk result ((a b c d : ℕ) → has_pair self.new a b c d ≡ (has_pair self.old a b c d || is_key a b c d p i q j)) }
+        ensures err { OnErr result (self.new ≡ self.old) }
+        ensures memory { IfErr result IsMemory }
+    {
+        self.pairs
+            .insert((p, i, q, j))
+            .map_err(AllocError::from)?;
+        Ok(())
     }
 
     /// The instance. Refused where the sum over neighbouring pairs of the product of their states passes
@@ -124,7 +142,8 @@ impl InstanceBuilder {
         ensures ok { IfOk result (λ instance. instance ≡ self) }
         ensures memory { IfErr result IsMemory }
     {
-        let neighbours = neighbour_rows(alloc, self.sizes.len(), &self.pairs)?;
+        let listed = listed_pairs(alloc, &self.pairs)?;
+        let neighbours = neighbour_rows(alloc, self.sizes.len(), listed.as_slice())?;
         let Self {
             sizes,
             total,

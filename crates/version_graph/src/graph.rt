@@ -1,5 +1,5 @@
 //! The instance: packages with their states, and what is forbidden among them.
-ghost use Rattle.std.specs.Prelude.{◌≡◌, ◌≢◌, ◌<◌, ◌≤◌, ◌&&◌, ℕ, true, false, not, length, IfOk, MatchBool, Contains, slice_index, slice_index_or, map, sum};
+ghost use Rattle.std.specs.Prelude.{◌≡◌, ◌≢◌, ◌<◌, ◌≤◌, ◌&&◌, ℕ, true, false, not, length, IfOk, MatchBool, Contains, slice_index, slice_index_or, map, sum, OnOk, ◌∷◌, ◌++◌, [], if◌then◌else◌};
 ghost use Rattle.version_graph.specs.Graph.{packages, states, is_offered, is_forbidden, is_root, are_neighbours, IsGraph, IsListOf};
 ghost use Rattle.version_graph.specs.Needed.{AreNeeds};
 ghost use Rattle.version_graph.specs.Family.{Meets};
@@ -46,7 +46,9 @@ impl Instance {
     /// How many states the package p has. It takes no memory.
     pub fn states(&self, p: u32) -> u32
         requires { p < packages self.now }
-        ensures { result ≡ states self.now p }
+        ensures count { result ≡ states self.now p }
+        ensures some { 0 < result }
+        ensures few { result ≤ 65536 }
     {
         self.sizes[p as usize]
     }
@@ -92,9 +94,7 @@ impl Instance {
     {
         let mut roots = States::make(alloc);
         for p in 0..self.packages() {
-            if self.is_root(p) {
-                roots.push(p)?;
-            }
+            push_if(&mut roots, p, self.is_root(p))?;
         }
         Ok(roots)
     }
@@ -161,4 +161,14 @@ fn flipped(alloc: Global, values: &[bool]) -> Result<Vec<bool>, AllocError>
     ensures { IfOk result (λ row. row.items ≡ map (λ b. not b) values.now) }
 {
     values.iter().map(|value| !*value).collect(alloc)
+}
+
+/// Appends the number where it is wanted.
+fn push_if(list: &mut States, item: u32, wanted: bool) -> Result<(), AllocError>
+    ensures { OnOk result (list.new.items ≡ list.old.items ++ (if wanted then item ∷ [] else [])) }
+{
+    if wanted {
+        list.push(item)?;
+    }
+    Ok(())
 }

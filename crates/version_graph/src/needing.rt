@@ -1,5 +1,5 @@
 //! What each state needs.
-ghost use Rattle.std.specs.Prelude.{◌≡◌, ◌<◌, ℕ, [], length, slice_index_or, IfOk};
+ghost use Rattle.std.specs.Prelude.{◌≡◌, ◌≢◌, ◌<◌, ℕ, [], length, slice_index_or, IfOk};
 ghost use Rattle.version_graph.specs.Graph.{packages, states, does_need, IsListOf};
 ghost use Rattle.version_graph.specs.Needed.{need_row, AreNeeds};
 ghost use Rattle.version_graph.specs.Stored.{rows_of};
@@ -63,11 +63,24 @@ fn state_needs(alloc: Global, instance: &Instance, p: u32, i: u32) -> Result<Vec
     requires state { i < states instance.now p }
     ensures { IfOk result (λ row. IsListOf (does_need instance.now p i) row.items) }
 {
+    let _count = instance.packages();
+    let neighbours = instance.neighbours(p);
     let mut row = Vec::new(alloc);
-    for q in instance.neighbours(p) {
-        if !instance.allowed(p, i, *q, instance.states(*q) - 1) {
+    for q in neighbours {
+        if does_need(instance, p, i, *q) {
             row.push(*q)?;
         }
     }
     Ok(row)
+}
+
+/// Whether the state i of p needs q.
+fn does_need(instance: &Instance, p: u32, i: u32, q: u32) -> bool
+    requires first { p < packages instance.now }
+    requires first_state { i < states instance.now p }
+    requires second { q < packages instance.now }
+    requires apart { q ≢ p }
+    ensures { result ≡ does_need instance.now p i q }
+{
+    !instance.allowed(p, i, q, instance.states(q) - 1)
 }

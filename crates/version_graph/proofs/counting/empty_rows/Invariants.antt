@@ -1,8 +1,9 @@
-use Rattle.std.proofs.Common.{◌≡◌, ◌≢◌, ◌<◌, ◌≤◌, ◌*◌, ◌+◌, ◌^◌, ◌||◌, ◌==◌, ℕ, true, false, [], length, sum, slice_index, slice_index_or, IfOk, OnOk, IfErr, replicate, ◌-◌}
-use Rattle.std.specs.List.Sorted.{IsStrictlyIncreasing}
-use Rattle.version_graph.specs.Graph.{Graph, packages, states, are_neighbours, share, sum_below, bits, cells}
-use Rattle.version_graph.specs.Stored.{rows_of, includes, AreLinked, AreBelow}
+use Rattle.std.proofs.Common.{◌≡◌, ◌<◌, ℕ, length, get_or, []}
+use Rattle.version_graph.specs.Stored.{rows_of}
 use Rattle.version_graph.proofs.counting.empty_rows.Given as goal
 
-abbrev pub invariant-loop : goal.invariant-loop
-invariant-loop l = ?
+abbrev pub invariant-loop-p : goal.invariant-loop-p
+invariant-loop-p l = record {
+  each : length l.rows.items ≡ l._p;
+  empty : (p : ℕ) → p < l._p → get_or (rows_of l.rows.items) p [] ≡ []
+}

@@ -1,8 +1,6 @@
-use Rattle.std.proofs.Common.{◌≡◌, ◌≢◌, ◌<◌, ◌≤◌, ◌*◌, ◌+◌, ◌^◌, ◌||◌, ◌==◌, ℕ, true, false, [], length, sum, slice_index, slice_index_or, IfOk, OnOk, IfErr, replicate, ◌-◌}
-use Rattle.std.specs.List.Sorted.{IsStrictlyIncreasing}
-use Rattle.version_graph.specs.Graph.{Graph, packages, states, are_neighbours, share, sum_below, bits, cells}
-use Rattle.version_graph.specs.Stored.{rows_of, includes, AreLinked, AreBelow}
+use Rattle.std.proofs.Common.{take}
+use Rattle.version_graph.specs.Stored.{rows_of, AreLinked}
 use Rattle.version_graph.proofs.counting.neighbour_rows.Given as goal
 
 abbrev pub invariant-loop-pair : goal.invariant-loop-pair
-invariant-loop-pair l = ?
+invariant-loop-pair l = AreLinked l.count (take l.pair-index l.pairs) (rows_of l.rows.items)

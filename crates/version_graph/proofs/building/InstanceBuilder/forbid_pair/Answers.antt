@@ -1,16 +1,22 @@
-use Rattle.std.proofs.Common.{rules, ◌≡◌, ◌≢◌, ◌<◌, ◌≤◌, ◌||◌, ◌^◌, ℕ, length, sum, slice_index, IfOk, IfErr, OnOk, OnErr, ◌+◌, ◌-◌, ◌*◌, ◌/◌, ◌%◌, Bool, true, false, nat_eq, nat_lt, List, [], ◌∷◌, ◌++◌, slice_index_or, slice_set, bit_and, bit_or, Fits, w8, w32, w64, Bor, MutBor}
-use Rattle.version_graph.specs.Graph.{packages, states, is_barred, is_forbidden, is_state, is_pair, bits, cells, IsOpen, SameGraph}
-use Rattle.version_graph.specs.Answers.{CountsPass, SumsPass, IsMemory}
+use Rattle.std.proofs.Common.{◌≡◌, ◌∙◌, ◌<◌, ◌||◌, ap, sym, arith, Bool, true, false, refl}
+use Rattle.version_graph.specs.Graph.{is_key, is_forbidden}
+use Rattle.version_graph.proofs.BuildLemmas.{forbidden-added, on-ok}
 use Rattle.version_graph.proofs.building.InstanceBuilder.forbid_pair.Goals as goal
 
--- src/building.rt:84:5
-pub invariant_of-self : goal.invariant_of-self
-invariant_of-self c = ?
+pub returns-then-p-q-clause-ok : goal.returns-then-p-q-clause-ok
+returns-then-p-q-clause-ok c = on-ok c.list_pair.result _ _
+  (λ added. forbidden-added c.args.self.now c.list_pair.new.self c.args.p c.args.i c.args.q c.args.j c.if-p-q.true added) c.list_pair.ensures.ok
 
--- src/building.rt:84:5
-pub returns-clause-barred : goal.returns-clause-barred
-returns-clause-barred c = ?
+swap : (a b : Bool) → (a || b) ≡ (b || a)
+swap true true = refl
+swap true false = refl
+swap false true = refl
+swap false false = refl
 
--- src/building.rt:84:5
-pub returns-clause-ok : goal.returns-clause-ok
-returns-clause-ok c = ?
+pub returns-else-p-q-clause-ok : goal.returns-else-p-q-clause-ok
+returns-else-p-q-clause-ok c = on-ok c.list_pair-else-p-q.result _ _
+  (λ added a b d e.
+    let below : c.args.q < c.args.p = omega arith in
+    forbidden-added c.args.self.now c.list_pair-else-p-q.new.self c.args.q c.args.j c.args.p c.args.i below added a b d e
+    ∙ ap (λ x. is_forbidden c.args.self.now a b d e || x) (swap (is_key a b d e c.args.q c.args.j c.args.p c.args.i) (is_key a b d e c.args.p c.args.i c.args.q c.args.j)))
+  c.list_pair-else-p-q.ensures.ok

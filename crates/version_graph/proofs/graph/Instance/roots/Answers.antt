@@ -1,18 +1,18 @@
-use Rattle.std.proofs.Common.{rules, ◌≡◌, ◌≢◌, ◌<◌, ◌≤◌, ℕ, true, false, not, length, IfOk, MatchBool, Contains, slice_index, slice_index_or, map, sum, ◌+◌, ◌-◌, ◌*◌, ◌/◌, ◌%◌, Bool, nat_eq, nat_lt, List, [], ◌∷◌, ◌++◌, slice_set, bit_and, bit_or, Fits, w8, w32, w64, Bor, MutBor}
-use Rattle.version_graph.specs.Graph.{packages, states, is_offered, is_forbidden, is_root, are_neighbours, IsGraph, IsListOf}
-use Rattle.version_graph.specs.Needed.{AreNeeds}
-use Rattle.version_graph.specs.Family.{Meets}
-use Rattle.version_graph.specs.Domain.{has, IsFor}
+use Rattle.std.proofs.Common.{◌≡◌, ◌∙◌, ◌++◌, ◌∷◌, [], cond, ap, sym, subst, arith, ltb}
+use Rattle.std.specs.List.{filter, range_with_len}
+use Rattle.version_graph.specs.Graph.{packages, is_root, IsListOf}
+use Rattle.version_graph.proofs.ListLemmas.{filter-range-more, filter-listed, range-listed, root-known}
 use Rattle.version_graph.proofs.graph.Instance.roots.Goals as goal
 
--- src/graph.rt:94:9
-pub loop-p-init : goal.loop-p-init
-loop-p-init c = ?
-
--- src/graph.rt:94:9
 pub loop-p-preserved : goal.loop-p-preserved
-loop-p-preserved c = ?
+loop-p-preserved c =
+  c.in_ok-push_if.ensures
+  ∙ ap (λ xs. xs ++ cond c.is_root.result (c.loop-p.p ∷ []) []) c.loop-p.invariant
+  ∙ ap (λ b. filter (is_root c.args.self.now) (range_with_len 0 c.loop-p.p) ++ cond b (c.loop-p.p ∷ []) []) c.is_root.ensures
+  ∙ sym (filter-range-more (is_root c.args.self.now) c.loop-p.p)
 
--- src/graph.rt:90:5
 pub returns : goal.returns
-returns c = ?
+returns c =
+  let whole : c.loop-p.p ≡ packages c.args.self.now = omega (arith, c.packages-p-end.ensures.count) in
+  subst (IsListOf (is_root c.args.self.now)) (sym (c.loop-p.invariant ∙ ap (λ n. filter (is_root c.args.self.now) (range_with_len 0 n)) whole))
+    (filter-listed (is_root c.args.self.now) (λ q. ltb q (packages c.args.self.now)) (range_with_len 0 (packages c.args.self.now)) (range-listed (packages c.args.self.now)) (root-known c.args.self.now))

@@ -1,8 +1,11 @@
-use Rattle.std.proofs.Common.{◌≡◌, ◌≢◌, ◌<◌, ◌≤◌, ◌*◌, ◌+◌, ◌^◌, ◌||◌, ◌==◌, ℕ, true, false, [], length, sum, slice_index, slice_index_or, IfOk, OnOk, IfErr, replicate, ◌-◌}
-use Rattle.std.specs.List.Sorted.{IsStrictlyIncreasing}
-use Rattle.version_graph.specs.Graph.{Graph, packages, states, are_neighbours, share, sum_below, bits, cells}
-use Rattle.version_graph.specs.Stored.{rows_of, includes, AreLinked, AreBelow}
+use Rattle.std.proofs.Common.{◌≡◌, ◌≤◌, ◌*◌, ◌+◌, ◌^◌}
+use Rattle.version_graph.specs.Graph.{share, sum_below}
 use Rattle.version_graph.proofs.graph.Instance.sums_of.Given as goal
 
 abbrev pub invariant-loop-q : goal.invariant-loop-q
-invariant-loop-q l = ?
+invariant-loop-q l = record {
+  bits : l.bits ≡ sum_below (share l.self (λ a b. a * b) l.p) l.q;
+  cells : l.cells ≡ sum_below (share l.self (λ a b. a + b) l.p) l.q;
+  few_bits : l.bits ≤ l.q * 2 ^ 32;
+  few_cells : l.cells ≤ l.q * 2 ^ 32
+}
