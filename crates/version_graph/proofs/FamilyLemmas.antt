@@ -1,9 +1,9 @@
 -- The laws of the closure.
-use Rattle.std.proofs.Common.{◌≡◌, ◌≢◌, ℕ, ◌<◌, Bool, true, false, ◌&&◌, List, length, get_or, refl, sym, subst, ap, arith, ◌⊎◌, inl, inr, ltb, eqb}
+use Rattle.std.proofs.Common.{◌≡◌, ℕ, ◌<◌, true, false, ◌&&◌, List, get_or, refl, sym, subst, inl, inr, ltb, eqb}
 use Rattle.std.proofs.lemmas.Bool.Decides.{eqb_tells}
 use Rattle.std.proofs.lemmas.Bool.{eqb-true, eq-eqb, ltb-true, lt-ltb, and_parts, and_from}
-use Rattle.version_graph.specs.Graph.{Graph, packages, is_forbidden, is_offered, IsSolution}
-use Rattle.version_graph.specs.Family.{Family, IsStable, IsWithin, InClosure, HasEmpty, Meets, IsLargestStable, agrees, under}
+use Rattle.version_graph.specs.Graph.{Graph, packages, is_forbidden, IsSolution}
+use Rattle.version_graph.specs.Family.{Family, InClosure, HasEmpty, IsLargestStable, agrees, under}
 
 pub closure-largest : (g : Graph) (f : Family) → IsLargestStable g f
 closure-largest g f = record {

@@ -1,5 +1,5 @@
 -- What a write to one place of the domains does.
-use Rattle.std.proofs.Common.{◌≡◌, ◌≢◌, ℕ, zero, suc, ◌+◌, ◌<◌, ◌≤◌, Bool, true, false, not, cond, ◌&&◌, List, [], ◌∷◌, sum, length, get_or, set, refl, sym, ◌∙◌, subst, ap, arith, ◌⊎◌, inl, inr, eqb, ltb, map, ◌||◌}
+use Rattle.std.proofs.Common.{◌≡◌, ℕ, zero, suc, ◌+◌, ◌<◌, ◌≤◌, Bool, true, false, not, cond, ◌&&◌, List, [], ◌∷◌, sum, length, get_or, set, refl, sym, ◌∙◌, subst, ap, arith, inl, inr, eqb, ltb, ◌||◌}
 use Rattle.std.proofs.lemmas.Bool.{cases_lt, cases_order, cases_Bool, eq-eqb, ne_eqb, lt-ltb, le-ltb}
 use Rattle.std.proofs.lemmas.Bool.Decides.{eqb_tells}
 use Rattle.std.proofs.lemmas.List.{map-set, get_or-map, length-map, set_past, get_or_past, get_or-set_same, get_or-set_other, length-set}
@@ -64,9 +64,9 @@ pub total-written : (d : Rows) (p i : ℕ) (v : Bool) → p < length d → i < l
     total (written d p i v) + cond (has d p i) 1 0 ≡ total d + cond v 1 0
 unfolding has total
 total-written d p i v known there =
-  let rows = sum_by-set count_true d p (set (row d p) i v) [] known in
-  let places = sum_by-set (λ (b : Bool). cond b 1 0) (row d p) i v false there in
-  omega (arith, rows, places)
+    let rows = sum_by-set count_true d p (set (row d p) i v) [] known in
+    let places = sum_by-set (λ (b : Bool). cond b 1 0) (row d p) i v false there in
+    omega (arith, rows, places)
 
 -- a state that is taken leaves one fewer
 pub total-taken : (d : Rows) (p i : ℕ) → has d p i ≡ true → total (written d p i false) + 1 ≡ total d
@@ -141,19 +141,20 @@ narrow-case : (a : Bool) (k i j : ℕ) → ((not a || (eqb k i || not (ltb k j))
 narrow-case false k i j = refl
 narrow-case true k i j =
     elim (cases_order k j) [
-      inl e ↦
-        rw (le-ltb k j (omega arith), eq-eqb k j e, lt-ltb k (j + 1) (omega arith)) (same (eqb k i) (eqb j i) (ap (λ x. eqb x i) e))
-    | inr o ↦ elim o [
-        inl l ↦ rw (lt-ltb k j l, ne_eqb k j (λ e. absurd (omega arith)), lt-ltb k (j + 1) (omega arith)) (one (eqb k i || false))
-      | inr l ↦ rw (le-ltb k j (omega arith), ne_eqb k j (λ e. absurd (omega arith)), le-ltb k (j + 1) (omega arith)) (one (eqb k i || true))
+      | inl e ↦
+          rw (le-ltb k j (omega arith), eq-eqb k j e, lt-ltb k (j + 1) (omega arith)) (same (eqb k i) (eqb j i) (ap (λ x. eqb x i) e))
+      | inr o ↦ elim o [
+        | inl l ↦ rw (lt-ltb k j l, ne_eqb k j (λ e. absurd (omega arith)), lt-ltb k (j + 1) (omega arith)) (one (eqb k i || false))
+        | inr l ↦ rw (le-ltb k j (omega arith), ne_eqb k j (λ e. absurd (omega arith)), le-ltb k (j + 1) (omega arith)) (one (eqb k i || true))
       ]
     ]
-    where
+  where
     same : (a b : Bool) → a ≡ b → ((a || not false) && (not true || b)) ≡ (a || not true)
     same true true e = refl
     same true false e = cc
     same false true e = cc
     same false false e = refl
+
     one : (a : Bool) → (a && true) ≡ a
     one true = refl
     one false = refl
@@ -167,16 +168,16 @@ pub narrow-end : (d : Rows) (p i q k n : ℕ) → n ≡ length (row d p) →
     (has d q k && (not (eqb q p) || (eqb k i || not (ltb k n)))) ≡ (has d q k && (not (eqb q p) || eqb k i))
 narrow-end d p i q k n e =
     elim (cases_Bool (has d q k)) [
-      inr f ↦ rw f refl
-    | inl t ↦ elim (eqb_tells q p) [
-        inr u ↦ rw (u.0) refl
-      | inl u ↦
-          let there : k < length (row d q) = (has_known d q k t).1 in
-          let below : k < n = omega (arith, there, ap (λ x. length (row d x)) u.1, e) in
-          rw (lt-ltb k n below) (ap (λ v. has d q k && (not (eqb q p) || v)) (or_none (eqb k i)))
+      | inr f ↦ rw f refl
+      | inl t ↦ elim (eqb_tells q p) [
+        | inr u ↦ rw (u.0) refl
+        | inl u ↦
+            let there : k < length (row d q) = (has_known d q k t).1 in
+            let below : k < n = omega (arith, there, ap (λ x. length (row d x)) u.1, e) in
+            rw (lt-ltb k n below) (ap (λ v. has d q k && (not (eqb q p) || v)) (or_none (eqb k i)))
       ]
     ]
-    where
+  where
     or_none : (a : Bool) → (a || not true) ≡ a
     or_none true = refl
     or_none false = refl
@@ -187,8 +188,8 @@ pub rows-offered : (g : Graph) (rows : Rows) (n : ℕ) → length rows ≡ n →
 unfolding has is_offered
 rows-offered g rows n each all at q i =
     elim (cases_lt q n) [
-      inl h ↦ at q i h
-    | inr h ↦
-        ap (λ r. get_or r i false) (get_or_past rows q [] (omega (arith, each))) ∙ get_or_past [] i false (omega arith)
+      | inl h ↦ at q i h
+      | inr h ↦
+          ap (λ r. get_or r i false) (get_or_past rows q [] (omega (arith, each))) ∙ get_or_past [] i false (omega arith)
           ∙ sym (ap (λ x. x && (ltb i (states g q) && not (is_barred g q i))) (le-ltb q (packages g) (omega (arith, all))))
     ]

@@ -3,7 +3,6 @@ use Rattle.std.specs.Prelude.{◌≡◌, ℕ, ◌<◌, ◌≤◌, ◌^◌, List,
 use Rattle.version_graph.specs.Graph.{Graph, bits, cells}
 use Rattle.version_graph.specs.declared.limits.GraphFault.{GraphFault}
 use Rattle.version_graph.specs.declared.limits.GraphFault.TheVariants.{Limit, Memory}
-use Rattle.version_graph.specs.declared.limits.LimitKind.{LimitKind}
 use Rattle.version_graph.specs.declared.limits.LimitKind.TheVariants.{Packages, States, Bits, Cells, TreeDepth, TreeFiles}
 
 -- the limits on packages and states: more than 4,096 packages carry 4,097, else the whole count of states

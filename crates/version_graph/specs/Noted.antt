@@ -2,7 +2,7 @@
 -- domains were found to be stable. (own rule)
 use Rattle.std.specs.Prelude.{◌≡◌, ℕ, ◌+◌, ◌<◌, ◌≤◌, Bool, true, false, not, ◌&&◌, List, [], length, slice_index_or, take, sum}
 use Rattle.std.specs.List.{list_any}
-use Rattle.version_graph.specs.Graph.{Graph, packages, states, is_state, is_offered}
+use Rattle.version_graph.specs.Graph.{Graph, is_state, is_offered}
 use Rattle.version_graph.specs.Family.{Family, IsStable, IsFilled}
 use Rattle.version_graph.specs.Domain.{Rows, has, total, IsFor}
 

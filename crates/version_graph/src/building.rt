@@ -112,9 +112,7 @@ impl InstanceBuilder {
         ensures err { OnErr result (self.new ≡ self.old) }
         ensures memory { IfErr result IsMemory }
     {
-        self.pairs
-            .insert((p, i, q, j))
-            .map_err(AllocError::from)?;
+        self.pairs.insert((p, i, q, j)).map_err(AllocError::from)?;
         Ok(())
     }
 

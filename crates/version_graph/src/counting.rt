@@ -80,7 +80,11 @@ fn link_row(rows: &mut Vec<Vec<u32>>, p: u32, q: u32) -> Result<(), AllocError>
 }
 
 /// For each package the packages with which a pair is listed.
-pub(crate) fn neighbour_rows(alloc: Global, count: usize, pairs: &[(u32, u32, u32, u32)]) -> Result<Vec<Vec<u32>>, AllocError>
+pub(crate) fn neighbour_rows(
+    alloc: Global,
+    count: usize,
+    pairs: &[(u32, u32, u32, u32)],
+) -> Result<Vec<Vec<u32>>, AllocError>
     requires { AreBelow count pairs.now }
     ensures { IfOk result (λ rows. AreLinked count pairs.now (rows_of rows.items)) }
 {
@@ -94,7 +98,10 @@ pub(crate) fn neighbour_rows(alloc: Global, count: usize, pairs: &[(u32, u32, u3
 }
 
 /// The listed pairs, in order.
-pub(crate) fn listed_pairs(alloc: Global, pairs: &BTreeSet<(u32, u32, u32, u32)>) -> Result<Vec<(u32, u32, u32, u32)>, AllocError>
+pub(crate) fn listed_pairs(
+    alloc: Global,
+    pairs: &BTreeSet<(u32, u32, u32, u32)>,
+) -> Result<Vec<(u32, u32, u32, u32)>, AllocError>
     ensures { IfOk result (λ listed. listed.items ≡ pairs.now.keys) }
 {
     pairs.iter().copied().collect(alloc)

@@ -63,7 +63,6 @@ fn state_needs(alloc: Global, instance: &Instance, p: u32, i: u32) -> Result<Vec
     requires state { i < states instance.now p }
     ensures { IfOk result (λ row. IsListOf (does_need instance.now p i) row.items) }
 {
-    let _count = instance.packages();
     let neighbours = instance.neighbours(p);
     let mut row = Vec::new(alloc);
     for q in neighbours {

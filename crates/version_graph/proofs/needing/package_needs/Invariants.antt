@@ -6,5 +6,5 @@ use Rattle.version_graph.proofs.needing.package_needs.Given as goal
 abbrev pub invariant-loop-i : goal.invariant-loop-i
 invariant-loop-i l = record {
   each : length l.rows.items ≡ l.i;
-  rows : (k : ℕ) → k < l.i → IsListOf (does_need l.instance l.p k) (get_or (rows_of l.rows.items) k [])
+  rows : (k : ℕ) → k < l.i → IsListOf (does_need l.instance l.p k) (get_or (rows_of l.rows.items) k []);
 }

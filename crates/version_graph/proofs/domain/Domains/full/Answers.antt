@@ -1,4 +1,4 @@
-use Rattle.std.proofs.Common.{◌≡◌, ◌∙◌, ap, arith, length}
+use Rattle.std.proofs.Common.{◌≡◌, ◌∙◌, arith, length}
 use Rattle.std.proofs.lemmas.List.{length-map}
 use Rattle.version_graph.proofs.RowLemmas.{rows-offered}
 use Rattle.version_graph.proofs.TrailLemmas.{fresh-holds}
@@ -18,6 +18,6 @@ returns-clause-offered c = rows-offered c.args.instance.now (rows_of c.loop-p.ro
 
 pub returns-clause-fresh : goal.returns-clause-fresh
 returns-clause-fresh c t f =
-  fresh-holds c.args.instance.now (rows_of c.loop-p.rows.items) t
+    fresh-holds c.args.instance.now (rows_of c.loop-p.rows.items) t
     (record { each = each c ∙ whole c; wide = λ p h. c.loop-p.invariant.wide p (omega (arith, h, whole c)) })
     (rows-offered c.args.instance.now (rows_of c.loop-p.rows.items) c.loop-p.p (each c) (whole c) c.loop-p.invariant.offered) f

@@ -7,5 +7,5 @@ abbrev pub invariant-loop-p : goal.invariant-loop-p
 invariant-loop-p l = record {
   each : length l.rows.items ≡ l.p;
   wide : (q : ℕ) → q < l.p → length (get_or (rows_of l.rows.items) q []) ≡ states l.instance q;
-  offered : (q i : ℕ) → q < l.p → get_or (get_or (rows_of l.rows.items) q []) i false ≡ is_offered l.instance q i
+  offered : (q i : ℕ) → q < l.p → get_or (get_or (rows_of l.rows.items) q []) i false ≡ is_offered l.instance q i;
 }

@@ -1,4 +1,4 @@
-use Rattle.std.proofs.Common.{◌≡◌, ◌∙◌, ℕ, ◌<◌, ap, sym, arith, length, get_or, false, subst, List, Bool}
+use Rattle.std.proofs.Common.{◌≡◌, ◌∙◌, ap, sym, arith, length}
 use Rattle.version_graph.specs.Domain.{has, row, size_of, count_true}
 use Rattle.version_graph.proofs.RowLemmas.{row-read, count-le, none_true, some_true}
 use Rattle.version_graph.proofs.domain.Domains.size.Goals as goal
@@ -6,9 +6,9 @@ use Rattle.version_graph.proofs.domain.Domains.size.Goals.{After-count_of}
 
 here : (c : After-count_of) → row c.args.self.now c.args.p ≡ c.as_slice.result.now
 here c =
-  sym (ap (λ d. row d c.args.p) c.self.view_is)
-  ∙ row-read c.self.inside.rows.items c.args.p c.index.result.now c.index.ensures (omega (arith, c.requires, ap length c.self.view_is))
-  ∙ sym c.as_slice.ensures.value
+    sym (ap (λ d. row d c.args.p) c.self.view_is)
+    ∙ row-read c.self.inside.rows.items c.args.p c.index.result.now c.index.ensures (omega (arith, c.requires, ap length c.self.view_is))
+    ∙ sym c.as_slice.ensures.value
 
 counted : (c : After-count_of) → c.count_of.result ≡ count_true (row c.args.self.now c.args.p)
 counted c = c.count_of.ensures ∙ ap count_true (sym (here c))

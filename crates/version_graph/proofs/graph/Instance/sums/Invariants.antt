@@ -7,5 +7,5 @@ invariant-loop-p l = record {
   bits : l.bits ≡ sum_below (λ p. sum_below (share l.self (λ a b. a * b) p) p) l.p;
   cells : l.cells ≡ sum_below (λ p. sum_below (share l.self (λ a b. a + b) p) p) l.p;
   few_bits : l.bits ≤ l.p * 2 ^ 44;
-  few_cells : l.cells ≤ l.p * 2 ^ 44
+  few_cells : l.cells ≤ l.p * 2 ^ 44;
 }

@@ -7,5 +7,5 @@ invariant-loop-q l = record {
   bits : l.bits ≡ sum_below (share l.self (λ a b. a * b) l.p) l.q;
   cells : l.cells ≡ sum_below (share l.self (λ a b. a + b) l.p) l.q;
   few_bits : l.bits ≤ l.q * 2 ^ 32;
-  few_cells : l.cells ≤ l.q * 2 ^ 32
+  few_cells : l.cells ≤ l.q * 2 ^ 32;
 }

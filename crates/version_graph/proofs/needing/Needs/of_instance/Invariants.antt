@@ -7,5 +7,5 @@ abbrev pub invariant-loop-p : goal.invariant-loop-p
 invariant-loop-p l = record {
   each : length l.rows.items ≡ l.p;
   wide : (q : ℕ) → q < l.p → length (get_or (map (λ r. rows_of r.items) l.rows.items) q []) ≡ states l.instance q;
-  rows : (q i : ℕ) → q < l.p → i < states l.instance q → IsListOf (does_need l.instance q i) (get_or (get_or (map (λ r. rows_of r.items) l.rows.items) q []) i [])
+  rows : (q i : ℕ) → q < l.p → i < states l.instance q → IsListOf (does_need l.instance q i) (get_or (get_or (map (λ r. rows_of r.items) l.rows.items) q []) i []);
 }
