@@ -1,15 +1,15 @@
 -- How one step of closing after another keeps what is done.
-use Rattle.std.proofs.Common.{◌≡◌, ◌≢◌, ℕ, zero, suc, ◌+◌, ◌-◌, ◌<◌, ◌≤◌, Bool, true, false, not, cond, ◌&&◌, ◌||◌, List, [], ◌∷◌, ◌++◌, length, get_or, take, drop, refl, sym, ◌∙◌, subst, ap, arith, ◌⊎◌, inl, inr, eqb, ltb, length-append}
+use Rattle.std.proofs.Common.{◌≡◌, ◌≢◌, ℕ, zero, suc, ◌+◌, ◌<◌, ◌≤◌, Bool, true, false, not, cond, ◌&&◌, ◌||◌, List, [], ◌∷◌, ◌++◌, length, get_or, take, drop, refl, sym, ◌∙◌, subst, ap, arith, inl, inr, eqb, ltb, length-append}
 use Rattle.std.specs.Bool.{MatchBool}
 use Rattle.std.specs.List.{list_any, Contains}
 use Rattle.std.proofs.lemmas.Grind.{get_or_default_zero}
 use Rattle.std.proofs.lemmas.Bool.{cases_lt, cases_Bool, cases_eq, and_parts, and_from, eq-eqb, eqb-true, ne_eqb, ltb-true, lt-ltb, le-ltb}
 use Rattle.std.proofs.lemmas.Bool.Decides.{eqb_tells}
-use Rattle.std.proofs.lemmas.List.{take-append-le, take-append-drop}
+use Rattle.std.proofs.lemmas.List.{take-append-drop}
 use Rattle.std.proofs.lemmas.List.Folds.{list_any-append}
 use Rattle.std.proofs.Math.Seq.{take-append_seam, take-length}
 use Rattle.version_graph.specs.Graph.{Graph, packages, states, is_forbidden, has_pair, is_state, is_offered}
-use Rattle.version_graph.specs.Family.{Family, IsWithin, IsStable, IsFilled, Meets, InClosure, HasEmpty, IsClosureOf, LiesBetween}
+use Rattle.version_graph.specs.Family.{Family, IsWithin, Meets, HasEmpty, IsClosureOf, LiesBetween}
 use Rattle.version_graph.specs.Domain.{Rows, has}
 use Rattle.version_graph.specs.Noted.{History, Holds, IsSettled, left_by, is_noted, note_at}
 use Rattle.graph_pruning.specs.Spread.{Shrinks, Extends, IsClear, is_pending, AreClear}

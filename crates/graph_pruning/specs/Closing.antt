@@ -1,7 +1,7 @@
 -- What closing the domains answers. (own rule: the closure is a condition, see the crate of instances)
 use Rattle.std.specs.Prelude.{◌≡◌, ℕ}
 use Rattle.version_graph.specs.Graph.{Graph}
-use Rattle.version_graph.specs.Family.{Family, IsFilled, IsClosureOf, LiesBetween, HasEmpty}
+use Rattle.version_graph.specs.Family.{Family, IsFilled, IsClosureOf, HasEmpty}
 use Rattle.graph_pruning.specs.declared.closing.Closed.{Closed}
 use Rattle.graph_pruning.specs.declared.closing.Closed.TheVariants.{Stable, Empty}
 

@@ -221,3 +221,42 @@ pub fn undo_to(domains: &mut Domains, trail: &mut Trail, mark: u32)
         domains.give_back(trail);
     }
 }
+
+#[cfg(test)]
+mod tests {
+    use super::*;
+    use std::test::Fail;
+    use version_graph::InstanceBuilder;
+
+    #[test]
+    fn two_roots_leave_one_state_of_their_package(rt: HostRuntime) -> Result<(), Fail> {
+        let mut builder = InstanceBuilder::make(rt.alloc(), &[2, 2, 3])?;
+        builder.forbid_state(0, 1);
+        builder.forbid_state(1, 1);
+        builder.forbid_pair(0, 0, 2, 2)?;
+        builder.forbid_pair(1, 0, 2, 0)?;
+        let instance = builder.finish(rt.alloc())?;
+        let mut domains = Domains::full(rt.alloc(), &instance)?;
+        let mut trail = Trail::make(rt.alloc(), &instance)?;
+        let closed = close(&instance, &mut domains, &mut trail);
+        assert_eq!(rt; closed, Closed::Stable);
+        assert_eq!(rt; trail.mark(), 2);
+        undo_to(&mut domains, &mut trail, 0);
+        assert_eq!(rt; trail.mark(), 0);
+        Ok(())
+    }
+
+    #[test]
+    fn two_that_refuse_each_other_are_empty(rt: HostRuntime) -> Result<(), Fail> {
+        let mut builder = InstanceBuilder::make(rt.alloc(), &[1, 1])?;
+        builder.forbid_pair(0, 0, 1, 0)?;
+        let instance = builder.finish(rt.alloc())?;
+        let mut domains = Domains::full(rt.alloc(), &instance)?;
+        let mut trail = Trail::make(rt.alloc(), &instance)?;
+        assert_eq!(rt;
+            close(&instance, &mut domains, &mut trail),
+            Closed::Empty(0)
+        );
+        Ok(())
+    }
+}

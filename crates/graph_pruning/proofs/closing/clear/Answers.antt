@@ -1,4 +1,4 @@
-use Rattle.std.proofs.Common.{◌≡◌, ◌∙◌, ◌<◌, ap, sym, subst, arith, inl, inr, true, get_or, ℕ}
+use Rattle.std.proofs.Common.{◌∙◌, ap, sym, subst, arith, inl, inr, get_or}
 use Rattle.std.proofs.lemmas.Bool.{cases_eq}
 use Rattle.version_graph.specs.Family.{Meets}
 use Rattle.version_graph.specs.Domain.{has}
