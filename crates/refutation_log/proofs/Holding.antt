@@ -1,0 +1,98 @@
+-- What a trail tells of the domains that it holds, and what closing them leaves.
+use Rattle.std.proofs.Common.{◌≡◌, ℕ, ◌<◌, ◌≤◌, Bool, true, false, not, ◌&&◌, ◌||◌, ◌==◌, nat_lt, List, [], length, take, sym, ap, refl, ◌∙◌, arith}
+use Rattle.std.proofs.lemmas.Bool.{and_parts, both_ways, eqb-true, eq-eqb, false_from_ne_true, lt-ltb, ltb-true}
+use Rattle.std.proofs.lemmas.List.{length-take, take-take}
+use Rattle.version_graph.specs.Graph.{Graph, states, is_offered}
+use Rattle.version_graph.specs.Family.{Family, InClosure, LiesBetween, HasEmpty, narrowed, under}
+use Rattle.version_graph.specs.Domain.{Rows, has}
+use Rattle.version_graph.specs.Noted.{History, Holds, left_by, is_noted}
+use Rattle.graph_pruning.specs.Closing.{IsClosedFrom}
+use Rattle.refutation_log.specs.Found.{IsClosed, IsSettledAs}
+use Rattle.refutation_log.proofs.Below.{IsBelow, below_within, empty_below}
+
+-- a state of the domains isn't forbidden alone
+pub offered : (g : Graph) (d : Rows) (t : History) (p i : ℕ) → Holds g d t → has d p i ≡ true → is_offered g p i ≡ true
+unfolding left_by
+offered g d t p i h e = (and_parts _ _ (sym (h.left p i) ∙ e)).0
+
+pub offered_state : (g : Graph) (p i : ℕ) → is_offered g p i ≡ true → i < states g p
+unfolding is_offered
+offered_state g p i e = ltb-true _ _ (and_parts _ _ (and_parts _ _ e).1).0
+
+-- equal notes leave equal domains
+pub same_left : (g : Graph) (d e : Rows) (s t : History) → Holds g d s → Holds g e t → t.notes ≡ s.notes → has e ≡ has d
+same_left g d e s t h k n = λ x p i. each p i x
+  where
+    each : (p i : ℕ) → has e p i ≡ has d p i
+    each p i = k.left p i ∙ ap (λ notes. left_by g notes p i) n ∙ sym (h.left p i)
+
+-- where a domain of the closure is empty, all are
+pub none_closed : (g : Graph) (f : Family) (p i : ℕ) → HasEmpty g f → InClosure g f p i → ⊥
+none_closed g f p i e k = go (e.place == p) refl
+  where
+    go : (b : Bool) → e.place == p ≡ b → ⊥
+    go true same = let at : e.place ≡ p = eqb-true _ _ same in e.none i (rw at k)
+    go false apart =
+        let m = k.stable.meets p i e.place k.here e.known (λ same. both_ways _ apart (eq-eqb e.place p same)) in
+        e.none m.partner (record { family = k.family; stable = k.stable; within = k.within; here = m.there })
+
+-- the closure within the old domains is the one within the new ones
+pub same_closure : (g : Graph) (old new : Family) → LiesBetween g old new → IsBelow g old new
+same_closure g old new b = record {
+  below = λ p i k. record {
+    family = k.family;
+    stable = k.stable;
+    here = k.here;
+    within = record { at = λ q j h. b.whole q j (record { family = k.family; stable = k.stable; within = k.within; here = h }) };
+  };
+}
+
+pub closed_when_stable : (g : Graph) (old new : Family) → LiesBetween g old new → IsClosedFrom g old new → IsClosed g new
+closed_when_stable g old new b c = record {
+  sound = sound;
+  filled = λ e. let s = c.filled.some e.place e.known in e.none s.0 (sound e.place s.0 s.1);
+}
+  where
+    sound : (p i : ℕ) → new p i ≡ true → InClosure g new p i
+    sound p i h = (same_closure g old new b).below p i (c.closure.sound p i h)
+
+pub empty_when_emptied : (g : Graph) (old new : Family) → LiesBetween g old new → HasEmpty g old → HasEmpty g new
+empty_when_emptied g old new b e = empty_below g new old (below_within g new old b.within) e
+
+-- what is noted first stays first
+pub earlier_trans : {X : Type 0} (a b c : List X) → take (length a) b ≡ a → take (length b) c ≡ b → take (length a) c ≡ a
+earlier_trans a b c h k =
+    let len : length (take (length a) b) ≡ length a = ap length h in
+    let le : length a ≤ length b = omega (arith, len, length-take (length a) b) in
+    sym (take-take (length a) (length b) c le) ∙ ap (take (length a)) k ∙ h
+
+-- the domain of a package that lacks a state, with its states crossed off
+pub cut_to_nothing : (g : Graph) (d : Rows) (t : History) (p i : ℕ) → Holds g d t → has d p i ≡ false → (q j : ℕ) → has d q j && not (q == p && nat_lt j (states g p)) ≡ narrowed (has d) p i q j
+cut_to_nothing g d t p i h lacks q j = go (q == p) (has d q j) refl refl
+  where
+    go : (b c : Bool) → q == p ≡ b → has d q j ≡ c → c && not (b && nat_lt j (states g p)) ≡ c && (not b || (j == i))
+    go b false same here = refl
+    go false true same here = refl
+    go true true same here =
+        let there : has d p j ≡ true = let at : q ≡ p = eqb-true _ _ same in rw at at here in
+        let below = offered_state g p j (offered g d t p j h there) in
+        ap not (lt-ltb _ _ below) ∙ sym (false_from_ne_true _ (λ e. let at : j ≡ i = eqb-true _ _ e in both_ways _ lacks (rw at at there)))
+
+pub settled_open : (g : Graph) (f : Family) (b : Bool) → b ≡ true → IsSettledAs g f b → IsClosed g f
+settled_open g f true e s = s
+settled_open g f false e s = absurd (cc)
+
+pub settled_shut : (g : Graph) (f : Family) (b : Bool) → b ≡ false → IsSettledAs g f b → HasEmpty g f
+settled_shut g f true e s = absurd (cc)
+settled_shut g f false e s = s
+
+left_by_nothing : (g : Graph) (p i : ℕ) → left_by g [] p i ≡ under g [] p i
+unfolding left_by is_noted
+left_by_nothing g p i = refl
+
+-- with nothing noted the domains are those of the empty prefix
+pub full_domains : (g : Graph) (d : Rows) (t : History) → Holds g d t → t.notes ≡ [] → has d ≡ under g []
+full_domains g d t h e = λ x p i. each p i x
+  where
+    each : (p i : ℕ) → has d p i ≡ under g [] p i
+    each p i = h.left p i ∙ ap (λ notes. left_by g notes p i) e ∙ left_by_nothing g p i

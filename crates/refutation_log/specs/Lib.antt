@@ -1,0 +1,6 @@
+pub mod Tree
+pub mod Refutes
+pub mod Within
+pub mod Found
+pub mod Scratch
+pub mod Listing

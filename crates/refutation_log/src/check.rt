@@ -1,0 +1,28 @@
+//! The call that checks a log.
+ghost use Rattle.std.specs.Prelude.{◌↔◌, IsTrue};
+ghost use Rattle.version_graph.specs.Graph.{IsPlain};
+ghost use Rattle.refutation_log.specs.Refutes.{IsRefutation, HasNoSolution};
+ghost use Rattle.refutation_log.specs.Scratch.{IsScratchFor};
+
+use crate::laws::refutation_is_sound;
+use crate::listed::Log;
+use crate::scratch::RefuteScratch;
+use version_graph::Instance;
+
+/// Whether the log refutes the instance: its nodes are the pre-order list of one whole tree of choices, whose
+/// first node has no state and every other one, each leaf of which is a dead end, and each branch of which
+/// leaves out no state of its package that is left. Any list of nodes may be handed in. Where the answer is
+/// true no solution exists, whoever made the log. It takes no memory, and the scratch values serve again.
+pub fn refutes(instance: &Instance, log: &Log, scratch: &mut RefuteScratch) -> bool
+    requires plain { IsPlain instance.now }
+    requires made { IsScratchFor instance.now scratch.old }
+    ensures exact { IsTrue result ↔ IsRefutation instance.now log.now.items }
+    ensures sound { IsTrue result → HasNoSolution instance.now }
+    ensures made { IsScratchFor instance.now scratch.new }
+{
+    refutation_is_sound();
+    scratch.accepts(instance, log.items())
+}
+
+#[cfg(test)]
+mod tests;

@@ -1,0 +1,15 @@
+//! A refutation log: a tree of choices, listed in pre-order, that shows that an instance has no solution.
+#![tactic(auto)]
+
+mod check;
+mod laws;
+mod listed;
+mod moves;
+mod node;
+mod scratch;
+
+pub use check::refutes;
+pub use laws::{more_choices_refute, refutation_is_sound};
+pub use listed::{Listed, Log};
+pub use node::{Node, NodeKind};
+pub use scratch::RefuteScratch;

@@ -1,0 +1,6 @@
+pub mod BuildLemmas
+pub mod FamilyLemmas
+pub mod GraphLemmas
+pub mod ListLemmas
+pub mod RowLemmas
+pub mod TrailLemmas

@@ -1,0 +1,31 @@
+use Rattle.std.proofs.Common.{◌∙◌, ap, subst, sym}
+use Rattle.version_graph.proofs.RowLemmas.{has_known, has-written}
+use Rattle.version_graph.proofs.TrailLemmas.{room_to_note, takes, and-flipped}
+use Rattle.version_graph.specs.Domain.{has}
+use Rattle.version_graph.specs.Graph.{is_state}
+use Rattle.version_graph.specs.Noted.{Holds}
+use Rattle.version_graph.proofs.domain.Domains.take.Goals as goal
+
+pub set-requires-clause-known : goal.set-requires-clause-known
+set-requires-clause-known c = (has_known _ _ _ c.requires.there).0
+
+pub set-requires-clause-state : goal.set-requires-clause-state
+set-requires-clause-state c = (has_known _ _ _ c.requires.there).1
+
+pub push-requires-clause-room : goal.push-requires-clause-room
+push-requires-clause-room c = (room_to_note c.requires.held.0 c.args.self.now c.args.trail.now c.args.p c.args.i c.requires.there c.requires.held.1).0
+
+pub push-requires-clause-lengths : goal.push-requires-clause-lengths
+push-requires-clause-lengths c = (room_to_note c.requires.held.0 c.args.self.now c.args.trail.now c.args.p c.args.i c.requires.there c.requires.held.1).1
+
+pub returns-clause-without : goal.returns-clause-without
+returns-clause-without c q j =
+    let k = has_known _ _ _ c.requires.there in
+    ap (λ x. has x q j) c.set.ensures
+    ∙ has-written _ _ _ _ q j k.0 k.1
+    ∙ and-flipped (is_state q j c.args.p c.args.i) (has c.args.self.now q j)
+
+pub returns-clause-keeps : goal.returns-clause-keeps
+returns-clause-keeps c g h =
+    subst (λ x. Holds g x c.push.new.self) (sym c.set.ensures)
+    (takes g c.args.self.now c.args.trail.now c.push.new.self c.args.p c.args.i c.requires.there h c.push.ensures.notes c.push.ensures.settled c.push.ensures.room)

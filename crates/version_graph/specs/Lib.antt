@@ -1,0 +1,8 @@
+pub mod Graph
+pub mod Family
+pub mod Domain
+pub mod Noted
+pub mod Answers
+pub mod Listing
+pub mod Needed
+pub mod Stored

@@ -1,0 +1,185 @@
+//! How an instance is made.
+ghost use Rattle.std.specs.Prelude.{◌≡◌, ◌≢◌, ◌<◌, ◌≤◌, ◌||◌, ◌^◌, ℕ, length, sum, slice_index, IfOk, IfErr, OnOk, OnErr};
+ghost use Rattle.version_graph.specs.Graph.{packages, states, is_barred, is_forbidden, is_state, is_pair, is_key, has_pair, bits, cells, IsOpen, SameGraph};
+ghost use Rattle.version_graph.specs.Answers.{CountsPass, SumsPass, IsMemory};
+
+use crate::counting::{listed_pairs, neighbour_rows, open_rows, state_sum};
+use crate::graph::Instance;
+use crate::limits::{GraphFault, LimitKind};
+use std::alloc::{AllocError, Global};
+use std::collections::BTreeSet;
+use std::marker::Model;
+
+const MOST_PACKAGES: usize = 4096;
+
+const MOST_STATES: u64 = 65536;
+
+const MOST_BITS: u64 = 1 << 30;
+
+const MOST_CELLS: u64 = 1 << 25;
+
+/// An instance that is being made.
+#[derive(Drop)]
+pub struct InstanceBuilder {
+    sizes: Vec<u32>,
+    total: u32,
+    barred: Vec<Vec<bool>>,
+    pairs: BTreeSet<(u32, u32, u32, u32)>,
+}
+
+impl Model for InstanceBuilder {
+    ghost use Rattle.std.specs.Prelude.{◌≡◌, sum};
+    ghost use Rattle.version_graph.specs.Graph.{Graph};
+    ghost use Rattle.version_graph.specs.Stored.{IsKept, graph_of};
+
+    ghost Value = { Graph };
+
+    ghost view = { λ a. graph_of a.sizes.items a.barred.items a.pairs.keys };
+
+    ghost invariant = { λ a. IsKept (graph_of a.sizes.items a.barred.items a.pairs.keys) a.barred.items × (a.total ≡ sum a.sizes.items) };
+}
+
+impl InstanceBuilder {
+    /// An instance with so many states for each package, in which nothing is forbidden. Refused where there
+    /// are more than 4,096 packages, which carries 4,097, and then where there are more than 65,536 states,
+    /// which carries their whole count; and for want of memory.
+    pub fn make(alloc: Global, states: &[u32]) -> Result<Self, GraphFault>
+        requires { (p : ℕ) → p < length states.now → 0 < slice_index states.now p }
+        ensures sizes { IfOk result (λ builder. builder.sizes ≡ states.now) }
+        ensures open { IfOk result (λ builder. IsOpen builder) }
+        ensures within { OnOk result ((length states.now ≤ 4096) × (sum states.now ≤ 65536)) }
+        ensures err { IfErr result (CountsPass states.now) }
+    {
+        if states.len() > MOST_PACKAGES {
+            return Err(GraphFault::Limit(LimitKind::Packages, 4097));
+        }
+        let total = state_sum(states);
+        if total > MOST_STATES {
+            return Err(GraphFault::Limit(LimitKind::States, total));
+        }
+        let sizes = Vec::from_slice(alloc, states)?;
+        let barred = open_rows(alloc, states)?;
+        Ok(Self {
+            sizes,
+            total: total as u32,
+            barred,
+            pairs: BTreeSet::new(alloc),
+        })
+    }
+
+    /// Forbids the state i of p alone. It takes no memory.
+    pub fn forbid_state(&mut self, p: u32, i: u32)
+        requires known { p < packages self.old }
+        requires state { i < states self.old p }
+        ensures sizes { self.new.sizes ≡ self.old.sizes }
+        ensures barred { (q j : ℕ) → is_barred self.new q j ≡ (is_barred self.old q j || is_state q j p i) }
+        ensures forbidden { (a b c d : ℕ) → is_forbidden self.new a b c d ≡ is_forbidden self.old a b c d }
+    {
+        let row = &mut self.barred[p as usize];
+        row[i as usize] = true;
+    }
+
+    /// Forbids the state i of p and the state j of q together. The one error is want of memory, and then the
+    /// instance is as before.
+    pub fn forbid_pair(&mut self, p: u32, i: u32, q: u32, j: u32) -> Result<(), GraphFault>
+        requires first { p < packages self.old }
+        requires first_state { i < states self.old p }
+        requires second { q < packages self.old }
+        requires second_state { j < states self.old q }
+        requires apart { p ≢ q }
+        ensures sizes { self.new.sizes ≡ self.old.sizes }
+        ensures barred { (a b : ℕ) → is_barred self.new a b ≡ is_barred self.old a b }
+        ensures ok { OnOk result ((a b c d : ℕ) → is_forbidden self.new a b c d ≡ (is_forbidden self.old a b c d || is_pair a b c d p i q j)) }
+        ensures err { OnErr result (self.new ≡ self.old) }
+        ensures memory { IfErr result IsMemory }
+    {
+        if p < q {
+            self.list_pair(p, i, q, j)
+        } else {
+            self.list_pair(q, j, p, i)
+        }
+    }
+
+    /// Lists the pair, the lower package first.
+    fn list_pair(&mut self, p: u32, i: u32, q: u32, j: u32) -> Result<(), GraphFault>
+        requires below { p < q }
+        requires known { q < packages self.old }
+        requires first_state { i < states self.old p }
+        requires second_state { j < states self.old q }
+        ensures sizes { self.new.sizes ≡ self.old.sizes }
+        ensures barred { (a b : ℕ) → is_barred self.new a b ≡ is_barred self.old a b }
+        ensures ok { OnOk result ((a b c d : ℕ) → has_pair self.new a b c d ≡ (has_pair self.old a b c d || is_key a b c d p i q j)) }
+        ensures err { OnErr result (self.new ≡ self.old) }
+        ensures memory { IfErr result IsMemory }
+    {
+        self.pairs.insert((p, i, q, j)).map_err(AllocError::from)?;
+        Ok(())
+    }
+
+    /// The instance. Refused where the sum over neighbouring pairs of the product of their states passes
+    /// 2^30, and then where that of the sum of their states passes 2^25, each with the whole sum; and for
+    /// want of memory.
+    pub fn finish(self, alloc: Global) -> Result<Instance, GraphFault>
+        ensures ok { IfOk result (λ instance. SameGraph self instance) }
+        ensures within { OnOk result ((bits self ≤ 2 ^ 30) × (cells self ≤ 2 ^ 25)) }
+        ensures err { IfErr result (SumsPass self) }
+    {
+        let instance = self.linked(alloc)?;
+        let sums = instance.sums();
+        if sums.bits > MOST_BITS {
+            return Err(GraphFault::Limit(LimitKind::Bits, sums.bits));
+        }
+        if sums.cells > MOST_CELLS {
+            return Err(GraphFault::Limit(LimitKind::Cells, sums.cells));
+        }
+        Ok(instance)
+    }
+
+    /// The instance with its neighbours, before its sums are looked at.
+    fn linked(self, alloc: Global) -> Result<Instance, GraphFault>
+        ensures ok { IfOk result (λ instance. instance ≡ self) }
+        ensures memory { IfErr result IsMemory }
+    {
+        let listed = listed_pairs(alloc, &self.pairs)?;
+        let neighbours = neighbour_rows(alloc, self.sizes.len(), listed.as_slice())?;
+        let Self {
+            sizes,
+            total,
+            barred,
+            pairs,
+        } = self;
+        Ok(Instance {
+            sizes,
+            total,
+            barred,
+            pairs,
+            neighbours,
+        })
+    }
+}
+
+#[cfg(test)]
+mod tests {
+    use super::*;
+    use std::test::Fail;
+
+    #[test]
+    fn two_roots_share_a_package(rt: HostRuntime) -> Result<(), Fail> {
+        let mut builder = InstanceBuilder::make(rt.alloc(), &[2, 2, 3])?;
+        builder.forbid_state(0, 1);
+        builder.forbid_state(1, 1);
+        builder.forbid_pair(0, 0, 2, 2)?;
+        let instance = builder.finish(rt.alloc())?;
+        let roots = instance.roots(rt.alloc())?;
+        assert_eq!(rt; roots.items(), [0, 1].as_slice());
+        Ok(())
+    }
+
+    #[test]
+    fn too_many_states_carry_their_count(rt: HostRuntime) {
+        match InstanceBuilder::make(rt.alloc(), &[65536, 1]) {
+            Ok(_) => assert!(rt; false),
+            Err(fault) => assert_eq!(rt; fault, GraphFault::Limit(LimitKind::States, 65537)),
+        }
+    }
+}
