@@ -1,0 +1,14 @@
+pub mod Pieces
+pub mod Numbers
+pub mod NumberMachine
+pub mod PartMachine
+pub mod Specifiers
+pub mod SpecMachine
+pub mod Refusals
+pub mod Meaning
+pub mod Ranges
+pub mod RangeMachine
+pub mod RangeMeaning
+pub mod Listing
+pub mod Admitted
+pub mod Table

@@ -1,0 +1,10 @@
+pub mod Active
+pub mod Faults
+pub mod Seen
+pub mod Project
+pub mod Manifest
+pub mod Maps
+pub mod Answers
+pub mod Owns
+pub mod Stanzas
+pub mod Views

@@ -1,0 +1,8 @@
+-- What a text means is what the machine gives for it, and that is one version.
+use Rattle.std.proofs.Common.{sym, ◌∙◌}
+use Rattle.std.proofs.lemmas.Option.{same_Some}
+use Rattle.jl_versions.proofs.GrammarRuns.{reads_gives}
+use Rattle.jl_versions.proofs.laws.text_means_one_version.Goals as goal
+
+pub returns : goal.returns
+returns c = λ text v w means too. same_Some v w (sym (reads_gives text v means) ∙ reads_gives text w too)

@@ -1,0 +1,11 @@
+pub mod Grammar
+pub mod Machine
+pub mod Order
+pub mod OrderLaws
+pub mod Pieces
+pub mod Printing
+pub mod Refusals
+pub mod Stages
+pub mod Stops
+pub mod Triple
+pub mod Words

@@ -1,0 +1,36 @@
+//! Laws of versions, each a function with an empty body whose contract is the law.
+
+ghost use Rattle.std.specs.Prelude.{◌≡◌, ◌↔◌, ◌⊎◌, ℕ, List, true};
+ghost use Rattle.std.specs.declared.cmp.Ordering.TheVariants.{Less, Equal};
+ghost use Rattle.jl_versions.specs.declared.version.Version.{Version};
+ghost use Rattle.jl_versions.specs.Grammar.{Reads};
+ghost use Rattle.jl_versions.specs.Order.{IsBelow};
+ghost use Rattle.jl_versions.specs.Printing.{IsVersion, printed};
+
+use crate::version::Version;
+
+/// Comparing versions is Julia's order by lists: the numbers first, then the pre-release, where one
+/// is below none, then the build. Equality is equality of values.
+pub fn order_is_by_lists()
+    ensures below { (v w : Version) → (⟦<Version as Ord>⟧.cmp v w ≡ Less) ↔ IsBelow v w }
+    ensures equal { (v w : Version) → (⟦<Version as Ord>⟧.cmp v w ≡ Equal) ↔ (v ≡ w) }
+    ensures same { (v w : Version) → (⟦<Version as PartialEq>⟧.eq v w ≡ true) ↔ (v ≡ w) }
+{}
+
+/// Of two versions one is below the other, or they are the same; none is below itself, and what is
+/// below a version is below those above it.
+pub fn order_is_total()
+    ensures one_way { (v w : Version) → IsBelow v w ⊎ ((v ≡ w) ⊎ IsBelow w v) }
+    ensures strict { (v : Version) → IsBelow v v → ⊥ }
+    ensures through { (u v w : Version) → IsBelow u v → IsBelow v w → IsBelow u w }
+{}
+
+/// A text means at most one version.
+pub fn text_means_one_version()
+    ensures { (text : List ℕ) (v w : Version) → Reads text v → Reads text w → v ≡ w }
+{}
+
+/// The printed text of a version means that version. So what is printed reads again as it was.
+pub fn printed_text_reads_back()
+    ensures { (v : Version) → IsVersion v → Reads (printed v) v }
+{}

@@ -1,0 +1,22 @@
+//! TOML files as tables: the table of a file's bytes, and the values at its keys, each refusal with its key path.
+#![tactic(auto)]
+
+mod document;
+mod keys;
+mod nesting;
+mod reader;
+mod readers;
+mod refusal;
+#[cfg(test)]
+mod tests;
+mod values;
+
+pub use document::{ViewFault, view};
+pub use keys::{KeyFault, need_text, opt_text, text_or_list, uuid_table};
+pub use reader::{Reader, need, opt, other_shape, read_at};
+pub use readers::{
+    Each, ListOf, NameReader, TextReader, TextsReader, UuidReader, table_at, texts_at,
+};
+pub use refusal::{Flaw, Refusal, Stop};
+pub use toml::{Table, Value};
+pub use values::{NamedValues, Values};

@@ -1,0 +1,3 @@
+module App
+using Lib
+end
