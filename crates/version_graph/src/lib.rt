@@ -10,6 +10,8 @@ mod laws;
 mod limits;
 mod needing;
 mod notes;
+#[cfg(test)]
+mod tests;
 
 pub use building::InstanceBuilder;
 pub use domain::Domains;
