@@ -3,6 +3,5 @@ pub mod Family
 pub mod Domain
 pub mod Noted
 pub mod Answers
-pub mod Listing
 pub mod Needed
 pub mod Stored

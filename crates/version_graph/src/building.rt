@@ -5,7 +5,8 @@ ghost use Rattle.version_graph.specs.Answers.{CountsPass, SumsPass, IsMemory};
 
 use crate::counting::{listed_pairs, neighbour_rows, open_rows, state_sum};
 use crate::graph::Instance;
-use crate::limits::{GraphFault, LimitKind};
+use crate::limits::GraphFault;
+use pkg_world::LimitKind;
 use std::alloc::{AllocError, Global};
 use std::collections::BTreeSet;
 use std::marker::Model;
@@ -155,31 +156,5 @@ impl InstanceBuilder {
             pairs,
             neighbours,
         })
-    }
-}
-
-#[cfg(test)]
-mod tests {
-    use super::*;
-    use std::test::Fail;
-
-    #[test]
-    fn two_roots_share_a_package(rt: HostRuntime) -> Result<(), Fail> {
-        let mut builder = InstanceBuilder::make(rt.alloc(), &[2, 2, 3])?;
-        builder.forbid_state(0, 1);
-        builder.forbid_state(1, 1);
-        builder.forbid_pair(0, 0, 2, 2)?;
-        let instance = builder.finish(rt.alloc())?;
-        let roots = instance.roots(rt.alloc())?;
-        assert_eq!(rt; roots.items(), [0, 1].as_slice());
-        Ok(())
-    }
-
-    #[test]
-    fn too_many_states_carry_their_count(rt: HostRuntime) {
-        match InstanceBuilder::make(rt.alloc(), &[65536, 1]) {
-            Ok(_) => assert!(rt; false),
-            Err(fault) => assert_eq!(rt; fault, GraphFault::Limit(LimitKind::States, 65537)),
-        }
     }
 }

@@ -7,7 +7,7 @@ ghost use Rattle.version_graph.specs.Domain.{has, IsFor};
 
 use crate::domain::Domains;
 use crate::needing::Needs;
-use crate::state_list::States;
+use pkg_world::States;
 use std::alloc::{AllocError, Global};
 use std::collections::BTreeSet;
 use std::marker::Model;

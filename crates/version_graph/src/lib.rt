@@ -10,7 +10,8 @@ mod laws;
 mod limits;
 mod needing;
 mod notes;
-mod state_list;
+#[cfg(test)]
+mod tests;
 
 pub use building::InstanceBuilder;
 pub use domain::Domains;
@@ -19,7 +20,6 @@ pub use laws::{
     closing_goes_on, closure_is_largest, empty_is_everywhere, notes_tell_domains,
     solution_is_closed,
 };
-pub use limits::{GraphFault, LimitKind};
+pub use limits::GraphFault;
 pub use needing::Needs;
 pub use notes::Trail;
-pub use state_list::States;

@@ -1,29 +1,17 @@
-//! The limits of an instance and the refusals that name them.
-use std::alloc::{AllocError, AllocFailed};
-
-/// Which count passed its limit.
-#[derive(Debug, Clone, Copy, PartialEq, Eq)]
-pub enum LimitKind {
-    /// Packages in a book: 4,096.
-    Packages,
-    /// States of an instance, absent ones included: 65,536.
-    States,
-    /// Sum over neighbouring pairs of packages of the product of their states: 2^30.
-    Bits,
-    /// Sum over neighbouring pairs of packages of the sum of their states: 2^25.
-    Cells,
-    /// Folders on a path below the hashed folder.
-    TreeDepth,
-    /// Files of a tree.
-    TreeFiles,
-}
+//! The refusals of an instance.
+use pkg_world::LimitKind;
+use std::alloc::AllocError;
+use thiserror::Error;
 
 /// Why an instance wasn't made.
-#[derive(Debug, Clone, Copy, PartialEq, Eq)]
+#[derive(Debug, Clone, Copy, PartialEq, Eq, Error)]
 pub enum GraphFault {
-    /// A count passed its limit; the number is the carried count.
+    /// A count passed its limit; the number is the carried count. The limits are 4,096 packages, 65,536
+    /// states, 2^30 bits and 2^25 cells.
+    #[error("a limit is passed by {1}")]
     Limit(LimitKind, u64),
     /// Want of memory.
+    #[error("no memory")]
     Memory,
 }
 
