@@ -3,4 +3,3 @@ pub mod Refutes
 pub mod Within
 pub mod Found
 pub mod Scratch
-pub mod Listing

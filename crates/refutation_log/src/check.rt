@@ -5,7 +5,7 @@ ghost use Rattle.refutation_log.specs.Refutes.{IsRefutation, HasNoSolution};
 ghost use Rattle.refutation_log.specs.Scratch.{IsScratchFor};
 
 use crate::laws::refutation_is_sound;
-use crate::listed::Log;
+use crate::node::Log;
 use crate::scratch::RefuteScratch;
 use version_graph::Instance;
 

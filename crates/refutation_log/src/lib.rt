@@ -3,13 +3,11 @@
 
 mod check;
 mod laws;
-mod listed;
 mod moves;
 mod node;
 mod scratch;
 
 pub use check::refutes;
 pub use laws::{more_choices_refute, refutation_is_sound};
-pub use listed::{Listed, Log};
-pub use node::{Node, NodeKind};
+pub use node::{Log, Node, NodeKind};
 pub use scratch::RefuteScratch;

@@ -1,4 +1,6 @@
 //! The nodes of a log.
+use pkg_world::Listed;
+
 /// A node of a log.
 #[derive(Clone, Copy, Debug, PartialEq, Eq)]
 pub struct Node {
@@ -16,3 +18,6 @@ pub enum NodeKind {
     /// The choice of a state of one package, each in a child of its own.
     Branch { package: u32, children: u32 },
 }
+
+/// Nodes, which are read as a tree in pre-order. Any nodes may stand in it.
+pub type Log = Listed<Node>;

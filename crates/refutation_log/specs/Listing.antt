@@ -1,6 +1,0 @@
--- A list with the room that was set aside for more items, which 'as before' does not speak of.
-use Rattle.std.specs.Prelude.{ℕ, List}
-
-pub record Listing (T : Type 0) : Type 0 where
-  pub items : List T
-  pub spare : ℕ
