@@ -151,10 +151,10 @@ fn a_ring_is_stable_and_empty_at_each_choice(rt: HostRuntime) -> Result<(), Fail
     let mut trail = Trail::make(alloc, &instance)?;
     let closed = close(&instance, &mut domains, &mut trail);
     assert_eq!(rt; closed, Closed::Stable);
-    for i in [1, 0] {
-        let answer = closed_at(&instance, &mut domains, &mut trail, i);
-        assert_eq!(rt; answer, Closed::Empty(0), "at {i}");
-    }
+    let second = closed_at(&instance, &mut domains, &mut trail, 1);
+    assert_eq!(rt; second, Closed::Empty(0));
+    let first = closed_at(&instance, &mut domains, &mut trail, 0);
+    assert_eq!(rt; first, Closed::Empty(0));
     let want = [(0, 0), (0, 1), (1, 0), (1, 1), (2, 0), (2, 1)];
     assert_eq!(rt;
         left(alloc, &instance, &domains, &trail)?.as_slice(),

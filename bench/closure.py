@@ -1,0 +1,252 @@
+#!/usr/bin/env python3
+"""Times the closure of domains and the limits of an instance.
+
+Makes a program in a temporary folder that stands on copies of this repository's crates, builds it with `rt`,
+runs it, and prints one line for each measurement. Needs `rt` on the path. Usage: bench/closure.py
+"""
+import os
+import shutil
+import subprocess
+import sys
+import tempfile
+import time
+
+TOP = os.path.dirname(os.path.dirname(os.path.abspath(__file__)))
+CRATES = ["pkg_world", "version_graph", "graph_pruning"]
+
+MAIN = r"""//! Makes an instance, and closes its domains after one choice at a time.
+#![tactic(auto)]
+
+mod drive;
+
+use anyhow::Result;
+use drive::{mesh_pairs, net_pairs, rounds, world};
+use std::env;
+use version_graph::{Domains, Trail};
+
+fn number(word: Option<String>) -> u32 {
+    match word {
+        Some(text) => text.as_str().parse::<u32>().unwrap_or(0),
+        None => 0,
+    }
+}
+
+fn main(rt: HostRuntime) -> Result<()> {
+    let alloc = rt.alloc();
+    let mut words = env::args(&rt)?;
+    let _name = words.next();
+    let mesh = number(words.next());
+    let packages = number(words.next());
+    let states = number(words.next());
+    let times = number(words.next());
+    if states == 0 {
+        return Ok(());
+    }
+    let pairs = if mesh == 1 {
+        mesh_pairs(alloc, packages)?
+    } else {
+        net_pairs(alloc, packages, states)?
+    };
+    let instance = match world(alloc, packages, states, pairs.as_slice()) {
+        Ok(instance) => instance,
+        Err(fault) => {
+            println!(rt; "{fault:?}")?;
+            return Ok(());
+        }
+    };
+    let mut domains = Domains::full(alloc, &instance)?;
+    let mut trail = Trail::make(alloc, &instance)?;
+    let taken = rounds(&instance, &mut domains, &mut trail, times);
+    println!(rt; "{taken}")?;
+    Ok(())
+}
+"""
+
+DRIVE = r"""//! Instances, and closing them after one choice at a time.
+ghost use Rattle.std.specs.Prelude.{◌<◌, ◌↔◌, IsTrue, length, slice_index};
+ghost use Rattle.version_graph.specs.Noted.{Holds};
+
+use graph_pruning::{close, undo_to};
+use std::alloc::{AllocError, Global};
+use version_graph::{Domains, GraphFault, Instance, InstanceBuilder, Trail};
+
+type Pairs = Vec<(u32, u32, u32, u32)>;
+
+/// The first states of each two packages.
+pub fn mesh_pairs(alloc: Global, packages: u32) -> Result<Pairs, AllocError> {
+    let mut pairs = Vec::new(alloc);
+    for q in 0..packages {
+        for p in 0..q {
+            pairs.push((p, 0, q, 0))?;
+        }
+    }
+    Ok(pairs)
+}
+
+/// Each package with the next one and with that half way round; a third of the states of each two.
+pub fn net_pairs(alloc: Global, packages: u32, states: u32) -> Result<Pairs, AllocError> {
+    let mut pairs = Vec::new(alloc);
+    for p in 0..packages {
+        let next = p.wrapping_add(1) % packages;
+        push_thirds(&mut pairs, p, next, states)?;
+        let across = p.wrapping_add(packages / 2) % packages;
+        if p < across {
+            push_thirds(&mut pairs, p, across, states)?;
+        }
+    }
+    Ok(pairs)
+}
+
+fn push_thirds(pairs: &mut Pairs, p: u32, q: u32, states: u32) -> Result<(), AllocError> {
+    for i in 0..states {
+        for j in 0..states {
+            if i.wrapping_add(j).wrapping_add(p) % 3 == 0 {
+                pairs.push((p, i, q, j))?;
+            }
+        }
+    }
+    Ok(())
+}
+
+/// Packages of so many states each, with these pairs forbidden.
+pub fn world(
+    alloc: Global,
+    packages: u32,
+    states: u32,
+    pairs: &[(u32, u32, u32, u32)],
+) -> Result<Instance, GraphFault>
+    requires { 0 < states }
+{
+    let sizes = vec![in alloc; states; packages as usize]?;
+    let mut builder = InstanceBuilder::make(alloc, sizes.as_slice())?;
+    for &(p, i, q, j) in pairs {
+        if p != q && has_state(sizes.as_slice(), p, i) && has_state(sizes.as_slice(), q, j) {
+            builder.forbid_pair(p, i, q, j)?;
+        }
+    }
+    builder.finish(alloc)
+}
+
+fn has_state(sizes: &[u32], p: u32, i: u32) -> bool
+    ensures { IsTrue result ↔ ((p < length sizes.now) × (i < slice_index sizes.now p)) }
+{
+    (p as usize) < sizes.len() && i < sizes[p as usize]
+}
+
+/// Closes after each choice of one state, and undoes it; how many states were taken out in all.
+pub fn rounds(instance: &Instance, domains: &mut Domains, trail: &mut Trail, times: u32) -> u64
+    requires { Holds instance.now domains.old trail.old }
+{
+    let _closed = close(instance, domains, trail);
+    let mut taken: u64 = 0;
+    for round in 0..times {
+        for p in 0..instance.packages() {
+            let more = choose(instance, domains, trail, p, round % 9);
+            taken = taken.saturating_add(u64::from(more));
+        }
+    }
+    taken
+}
+
+fn choose(instance: &Instance, domains: &mut Domains, trail: &mut Trail, p: u32, i: u32) -> u32
+    requires { Holds instance.now domains.old trail.old }
+    ensures { Holds instance.now domains.new trail.new }
+{
+    let mark = trail.mark();
+    if p >= instance.packages() || i >= instance.states(p) || !domains.has(p, i) {
+        return 0;
+    }
+    domains.narrow(p, i, trail);
+    let _closed = close(instance, domains, trail);
+    let taken = trail.mark().saturating_sub(mark);
+    undo_to(domains, trail, mark);
+    taken
+}
+"""
+WORLD = """use Rattle.std.proofs.Common.{◌≡◌}
+use Rattle.closure_bench.proofs.drive.world.Given as goal
+
+abbrev pub invariant-loop-p : goal.invariant-loop-p
+invariant-loop-p l = l.builder.sizes ≡ l.sizes.items
+"""
+
+ROUNDS = """use Rattle.version_graph.specs.Noted.{Holds}
+use Rattle.closure_bench.proofs.drive.rounds.Given as goal
+
+abbrev pub invariant-loop-round : goal.invariant-loop-round
+invariant-loop-round l = Holds l.instance l.domains l.trail
+
+abbrev pub invariant-loop-p : goal.invariant-loop-p
+invariant-loop-p l = Holds l.instance l.domains l.trail
+"""
+
+
+def write(path, text):
+    os.makedirs(os.path.dirname(path), exist_ok=True)
+    with open(path, "w", encoding="utf-8") as out:
+        out.write(text)
+
+
+def build(top):
+    """The program's path, once it is proved and built in this folder."""
+    lines = []
+    with open(os.path.join(TOP, "crates.txt"), encoding="utf-8") as listed:
+        for line in listed:
+            if line.split(":")[0] in CRATES:
+                lines.append(line)
+    for name in CRATES:
+        shutil.copytree(
+            os.path.join(TOP, "crates", name),
+            os.path.join(top, "crates", name),
+            ignore=shutil.ignore_patterns("out", "must-fail"),
+        )
+    crate = os.path.join(top, "crates", "closure_bench")
+    write(os.path.join(top, "crates.txt"), "".join(lines) + "closure_bench: graph_pruning version_graph anyhow\n")
+    write(os.path.join(crate, "src", "main.rt"), MAIN)
+    write(os.path.join(crate, "src", "drive.rt"), DRIVE)
+    write(os.path.join(crate, "proofs", "drive", "world", "Invariants.antt"), WORLD)
+    write(os.path.join(crate, "proofs", "drive", "rounds", "Invariants.antt"), ROUNDS)
+    write(os.path.join(crate, "proofs", "Lib.antt"), "")
+    write(os.path.join(crate, "specs", "Lib.antt"), "")
+    built = subprocess.run(["rt", "run"], cwd=crate, capture_output=True, text=True)
+    program = os.path.join(crate, "out", "closure_bench")
+    if not os.path.exists(program):
+        sys.exit(built.stdout + built.stderr)
+    return program
+
+
+def timed(program, mesh, packages, states, times):
+    """Seconds, peak memory in KiB, and what is printed."""
+    words = [program, str(mesh), str(packages), str(states), str(times)]
+    start = time.monotonic()
+    child = subprocess.Popen(words, stdout=subprocess.PIPE, text=True)
+    printed = child.stdout.read().strip()
+    _, status, usage = os.wait4(child.pid, 0)
+    if status != 0:
+        sys.exit(f"{' '.join(words)} ended with {status}")
+    return time.monotonic() - start, usage.ru_maxrss, printed
+
+
+def main():
+    top = tempfile.mkdtemp(prefix="closure-bench-")
+    try:
+        program = build(top)
+        for packages, times in [(300, 900), (3000, 90)]:
+            without, _, _ = timed(program, 0, packages, 9, 0)
+            seconds, memory, taken = timed(program, 0, packages, 9, times)
+            closures = packages * times
+            each = (seconds - without) / closures
+            print(
+                f"{packages} packages of 9 states: {closures} closures and undos, {1 / each:.0f} a second, "
+                f"{each * 1e6:.1f} microseconds each, {int(taken) / closures:.1f} states taken out each, "
+                f"made and closed first in {without:.2f} seconds, {memory} KiB at most"
+            )
+        for states in [40, 32]:
+            seconds, memory, printed = timed(program, 1, 1024, states, 0)
+            print(f"1024 packages of {states} states: {printed} in {seconds:.2f} seconds, {memory} KiB at most")
+    finally:
+        shutil.rmtree(top)
+
+
+if __name__ == "__main__":
+    main()
