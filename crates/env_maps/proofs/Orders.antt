@@ -12,7 +12,7 @@ use Rattle.env_maps.specs.KeyOrder.{ProjectKeyOrder, StanzaKeyOrder, ManifestKey
 four : {A B C D T : Type 0} (f : A → B → C → D → T) (deps : Result A Refusal) (manifest : Result B Refusal) (name : Result C Refusal) (uuid : Result D Refusal)
     → chained (λ a. chained (λ b. chained (λ c. mapped (λ d. f a b c d) uuid) name) manifest) deps
     ≡ in_key_order (verdict (codes "name") name ∷ verdict (codes "uuid") uuid ∷ verdict (codes "deps") deps ∷ verdict (codes "manifest") manifest ∷ [])
-        (chained (λ a. chained (λ b. chained (λ c. mapped (λ d. f a b c d) uuid) name) manifest) deps)
+    (chained (λ a. chained (λ b. chained (λ c. mapped (λ d. f a b c d) uuid) name) manifest) deps)
 four f (Err r) manifest name uuid = refl
 four f (Ok a) (Err r) name uuid = refl
 four f (Ok a) (Ok b) (Err r) uuid = refl

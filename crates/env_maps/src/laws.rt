@@ -6,5 +6,4 @@ pub fn first_refusal_in_key_order()
     ensures project { ProjectKeyOrder }
     ensures stanza { StanzaKeyOrder }
     ensures manifest { ManifestKeyOrder }
-{
-}
+{}
