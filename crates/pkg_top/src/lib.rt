@@ -4,6 +4,8 @@
 mod early;
 mod place;
 mod status;
+#[cfg(test)]
+mod tests;
 mod top;
 mod which;
 mod words;
