@@ -2,7 +2,7 @@
 """Times the closure of domains and the limits of an instance.
 
 Makes a program in a temporary folder that stands on copies of this repository's crates, builds it with `rt`,
-runs it, and prints one line for each measurement. Needs `rt` on the path. Usage: bench/closure.py
+runs it, and prints one line for each measurement. Needs `rt` on the path and `/usr/bin/time`. Usage: bench/closure.py
 """
 import os
 import shutil
@@ -54,6 +54,10 @@ fn main(rt: HostRuntime) -> Result<()> {
             return Ok(());
         }
     };
+    if mesh == 1 {
+        println!(rt; "finished")?;
+        return Ok(());
+    }
     let mut domains = Domains::full(alloc, &instance)?;
     let mut trail = Trail::make(alloc, &instance)?;
     let taken = rounds(&instance, &mut domains, &mut trail, times);
@@ -217,14 +221,11 @@ def build(top):
 
 def timed(program, mesh, packages, states, times):
     """Seconds, peak memory in KiB, and what is printed."""
-    words = [program, str(mesh), str(packages), str(states), str(times)]
+    words = ["/usr/bin/time", "-f", "%M", program, str(mesh), str(packages), str(states), str(times)]
     start = time.monotonic()
-    child = subprocess.Popen(words, stdout=subprocess.PIPE, text=True)
-    printed = child.stdout.read().strip()
-    _, status, usage = os.wait4(child.pid, 0)
-    if status != 0:
-        sys.exit(f"{' '.join(words)} ended with {status}")
-    return time.monotonic() - start, usage.ru_maxrss, printed
+    ended = subprocess.run(words, capture_output=True, text=True, check=True)
+    seconds = time.monotonic() - start
+    return seconds, int(ended.stderr.split()[-1]), ended.stdout.strip()
 
 
 def main():
