@@ -4,6 +4,7 @@
 mod document;
 mod keys;
 mod nesting;
+mod print;
 mod reader;
 mod readers;
 mod refusal;
@@ -13,6 +14,7 @@ mod values;
 
 pub use document::{ViewFault, view};
 pub use keys::{KeyFault, need_text, opt_text, text_or_list, uuid_table};
+pub use print::{PrintFault, print_table};
 pub use reader::{Reader, need, opt, other_shape, read_at};
 pub use readers::{
     Each, ListOf, NameReader, TextReader, TextsReader, UuidReader, table_at, texts_at,
