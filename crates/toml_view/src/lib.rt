@@ -2,6 +2,7 @@
 #![tactic(auto)]
 
 mod document;
+mod halt;
 mod keys;
 mod nesting;
 mod reader;
@@ -13,6 +14,7 @@ mod values;
 mod versions;
 
 pub use document::{ViewFault, view};
+pub use halt::{Halt, halted, unviewed};
 pub use keys::{KeyFault, need_text, opt_text, text_or_list, uuid_table};
 pub use reader::{Reader, need, opt, other_shape, read_at};
 pub use readers::{
