@@ -2,6 +2,7 @@
 #![tactic(auto)]
 
 mod document;
+mod halt;
 mod keys;
 mod nesting;
 mod print;
@@ -11,14 +12,17 @@ mod refusal;
 #[cfg(test)]
 mod tests;
 mod values;
+mod versions;
 
 pub use document::{ViewFault, view};
+pub use halt::{Halt, halted, unviewed};
 pub use keys::{KeyFault, need_text, opt_text, text_or_list, uuid_table};
 pub use print::{PrintFault, print_table};
-pub use reader::{Reader, need, opt, other_shape, read_at};
+pub use reader::{Reader, need, opt, other_shape, read_at, stop_at};
 pub use readers::{
     Each, ListOf, NameReader, TextReader, TextsReader, UuidReader, table_at, texts_at,
 };
 pub use refusal::{Flaw, Refusal, Stop};
 pub use toml::{Table, Value};
-pub use values::{NamedValues, Values};
+pub use values::NamedValues;
+pub use versions::VersionReader;
