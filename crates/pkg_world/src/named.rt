@@ -49,7 +49,8 @@ impl<T: Drop> Named<T> {
 
     /// The pairs, in order.
     pub fn items(&self) -> &[(Name, T)]
-        ensures { result.now ≡ self.now.items }
+        ensures items { result.now ≡ self.now.items }
+        ensures by_name { IsTrue (is_by_name self.now.items) }
     {
         self.inside.items()
     }

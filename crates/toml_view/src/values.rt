@@ -1,9 +1,9 @@
 //! What is read of a table: its values with their names, with no room that contracts see.
-ghost use Rattle.std.specs.Prelude.{◌≡◌, [], IsTrue};
+ghost use Rattle.std.specs.Prelude.{◌≡◌, [], IsTrue, IfOk};
 ghost use Rattle.pkg_world.specs.ByName.{is_by_name};
 
-use pkg_world::{Listed, Name, Named};
-use std::alloc::Global;
+use pkg_world::{Duplicate, Listed, Name, Named};
+use std::alloc::{AllocError, Global};
 use std::marker::Model;
 
 /// The values of a table with their names, in the order of the names.
@@ -42,7 +42,8 @@ impl<T: Drop> NamedValues<T> {
 
     /// The names and values, in order.
     pub fn items(&self) -> &[(Name, T)]
-        ensures { result.now ≡ self.now }
+        ensures items { result.now ≡ self.now }
+        ensures by_name { IsTrue (is_by_name self.now) }
     {
         self.inside.items()
     }
@@ -53,5 +54,14 @@ impl<T: Drop> NamedValues<T> {
     {
         let Self { inside } = self;
         inside
+    }
+}
+
+impl<T: Duplicate + Drop> NamedValues<T> {
+    /// A list of equal names and values. The one error is want of memory.
+    pub fn list_copy(&self, alloc: Global) -> Result<Named<T>, AllocError>
+        ensures { IfOk result (λ other. other.items ≡ self.now) }
+    {
+        self.inside.copy(alloc)
     }
 }
