@@ -1,0 +1,5 @@
+pub mod Checksum
+pub mod Registers
+pub mod Slugs
+pub mod Laws
+pub mod Blobs
