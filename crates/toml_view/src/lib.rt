@@ -10,6 +10,7 @@ mod refusal;
 #[cfg(test)]
 mod tests;
 mod values;
+mod versions;
 
 pub use document::{ViewFault, view};
 pub use keys::{KeyFault, need_text, opt_text, text_or_list, uuid_table};
@@ -19,4 +20,5 @@ pub use readers::{
 };
 pub use refusal::{Flaw, Refusal, Stop};
 pub use toml::{Table, Value};
-pub use values::{NamedValues, Values};
+pub use values::NamedValues;
+pub use versions::VersionReader;
