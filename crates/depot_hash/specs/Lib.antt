@@ -3,3 +3,5 @@ pub mod Registers
 pub mod Slugs
 pub mod Laws
 pub mod Blobs
+pub mod Trees
+pub mod Placed
