@@ -3,7 +3,8 @@ use Rattle.std.proofs.Common.{◌≡◌, ℕ, zero, suc, ◌+◌, ◌-◌, ◌*�
 use Rattle.std.proofs.lemmas.List.{length-replicate}
 use Rattle.std.specs.List.{All, flat_map}
 use Rattle.std.proofs.lemmas.Bool.Decides.{nat_tests}
-use Rattle.std.proofs.lemmas.List.Elements.{All-head, All-tail, All-append}
+use Rattle.std.proofs.lemmas.List.Elements.{All-head, All-tail}
+use Rattle.std.proofs.lemmas.List.Concat.{flat_map-append}
 use Rattle.std.proofs.lemmas.Nat.{xor_comm, xor_shr, xor_mod, xor_lt, xor_block, pow_pos}
 use Rattle.std.proofs.Math.Nat.{pow-suc}
 use Rattle.std.specs.Int.Bits.{bit_xor, xor_assoc, xor_self, xor_zero_l, xor_zero_r}
@@ -230,43 +231,35 @@ reflected : divisor ≡ low_bits 32 0x82F63B78
 unfolding divisor low_bits
 reflected = refl
 
-shifts_below : (k c : ℕ) → c < 2 ^ 32 → shifts k c < 2 ^ 32
-unfolding shifts shifted
-shifts_below zero c h = h
-shifts_below (suc k) c h =
-    shifts_below k _ (xor_lt 32 (c / 2) (chosen 0x82F63B78 (c % 2 == 1)) (omega arith) (chosen_below 32 0x82F63B78 (c % 2 == 1) (lit< tt)))
+run_below : (ms : List Bool) (c : ℕ) → c < 2 ^ 32 → run 0x82F63B78 ms c < 2 ^ 32
+run_below [] c h = h
+run_below (m ∷ ms) c h = run_below ms (fed 0x82F63B78 m c) (fed_below 31 0x82F63B78 c m (lit< tt) h)
 
-next_below : (c b : ℕ) → c < 2 ^ 32 → b < 2 ^ 8 → next_register c b < 2 ^ 32
-unfolding next_register eight_shifts
-next_below c b h k = shifts_below 8 (bit_xor c b) (xor_lt 32 c b h (omega arith))
-
-register_below : (bytes : List ℕ) (c : ℕ) → c < 2 ^ 32 → All (λ byte. byte < 2 ^ 8) bytes → registers c bytes < 2 ^ 32
-register_below [] c h k = h
-register_below (b ∷ bytes) c h k =
-    register_below bytes (next_register c b) (next_below c b h (All-head (λ byte. byte < 2 ^ 8) b bytes k)) (All-tail (λ byte. byte < 2 ^ 8) b bytes k)
-
--- a checksum by the steps of a register
-pub checksum_is : (start : ℕ) (bytes : List ℕ) → start < 2 ^ 32 → All (λ byte. byte < 2 ^ 8) bytes
-    → crc32c start bytes ≡ 2 ^ 32 - 1 - registers (2 ^ 32 - 1 - start) bytes
+-- a checksum, bit by bit
+by_bits : (start : ℕ) (bytes : List ℕ) → start < 2 ^ 32 → crc32c start bytes ≡ 2 ^ 32 - 1 - run 0x82F63B78 (message_of bytes) (2 ^ 32 - 1 - start)
 unfolding crc32c
-checksum_is start bytes h k =
+by_bits start bytes h =
     let begins : 2 ^ 32 - 1 - start < 2 ^ 32 = omega arith in
-    let ends = register_below bytes (2 ^ 32 - 1 - start) begins k in
-    rw (low_not 32 start h, ← message_length bytes, divisions 31 0x82F63B78 (message_of bytes) (2 ^ 32 - 1 - start) reflected (lit< tt) begins, message_run bytes (2 ^ 32 - 1 - start) k, low_not 32 _ ends)
+    let ends = run_below (message_of bytes) (2 ^ 32 - 1 - start) begins in
+    rw (low_not 32 start h, ← message_length bytes, divisions 31 0x82F63B78 (message_of bytes) (2 ^ 32 - 1 - start) reflected (lit< tt) begins, low_not 32 _ ends)
     (low_number 32 _ (omega arith))
 
-registers_append : (a b : List ℕ) (c : ℕ) → registers c (a ++ b) ≡ registers (registers c a) b
-registers_append [] b c = refl
-registers_append (byte ∷ a) b c = registers_append a b (next_register c byte)
+-- a checksum, byte by byte
+pub checksum_is : (start : ℕ) (bytes : List ℕ) → start < 2 ^ 32 → All (λ byte. byte < 2 ^ 8) bytes
+    → crc32c start bytes ≡ 2 ^ 32 - 1 - registers (2 ^ 32 - 1 - start) bytes
+checksum_is start bytes h k = by_bits start bytes h ∙ rw (message_run bytes (2 ^ 32 - 1 - start) k)
 
-pub checksum_goes_on : (start : ℕ) (a b : List ℕ) → start < 2 ^ 32 → All (λ byte. byte < 2 ^ 8) a → All (λ byte. byte < 2 ^ 8) b
-    → crc32c (crc32c start a) b ≡ crc32c start (a ++ b)
-checksum_goes_on start a b h p q =
+message_append : (a b : List ℕ) → message_of (a ++ b) ≡ message_of a ++ message_of b
+unfolding message_of
+message_append a b = flat_map-append (low_bits 8) a b
+
+pub checksum_goes_on : (start : ℕ) (a b : List ℕ) → start < 2 ^ 32 → crc32c (crc32c start a) b ≡ crc32c start (a ++ b)
+checksum_goes_on start a b h =
     let begins : 2 ^ 32 - 1 - start < 2 ^ 32 = omega arith in
-    let between = register_below a (2 ^ 32 - 1 - start) begins p in
-    let stands = checksum_is start a h p in
+    let between = run_below (message_of a) (2 ^ 32 - 1 - start) begins in
+    let stands = by_bits start a h in
     let low : crc32c start a < 2 ^ 32 = omega arith in
-    let turned : 2 ^ 32 - 1 - crc32c start a ≡ registers (2 ^ 32 - 1 - start) a = omega arith in
-    checksum_is (crc32c start a) b low q
-    ∙ rw (turned, ← registers_append a b (2 ^ 32 - 1 - start))
-    (sym (checksum_is start (a ++ b) h (All-append (λ byte. byte < 2 ^ 8) a b p q)))
+    let turned : 2 ^ 32 - 1 - crc32c start a ≡ run 0x82F63B78 (message_of a) (2 ^ 32 - 1 - start) = omega arith in
+    by_bits (crc32c start a) b low
+    ∙ rw (turned, ← bits_append 0x82F63B78 (message_of a) (message_of b) (2 ^ 32 - 1 - start), ← message_append a b)
+    (sym (by_bits start (a ++ b) h))

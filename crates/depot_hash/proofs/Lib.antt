@@ -1,3 +1,4 @@
 pub mod Divisions
 pub mod StepTable
 pub mod Keys
+pub mod Finding

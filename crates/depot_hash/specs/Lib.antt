@@ -5,3 +5,5 @@ pub mod Laws
 pub mod Blobs
 pub mod Trees
 pub mod Placed
+pub mod Faults
+pub mod Installed

@@ -3,15 +3,19 @@
 
 mod checksum;
 mod entries;
+mod fault;
 mod git_key;
 mod laws;
 mod objects;
+mod packages;
 mod slugs;
 mod trees;
 
 pub use checksum::crc32c;
 pub use entries::{Mode, TreeEntry, TreeFault};
+pub use fault::FolderFault;
 pub use laws::checksum_goes_on;
 pub use objects::blob_id;
-pub use slugs::slug_text;
+pub use packages::installed;
+pub use slugs::{slug, slug_text, slug4};
 pub use trees::tree_id;
