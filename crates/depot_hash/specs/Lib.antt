@@ -7,3 +7,5 @@ pub mod Trees
 pub mod Placed
 pub mod Faults
 pub mod Installed
+pub mod Folders
+pub mod Walks

@@ -4,6 +4,7 @@
 mod checksum;
 mod entries;
 mod fault;
+mod folders;
 mod git_key;
 mod laws;
 mod objects;
@@ -14,6 +15,7 @@ mod trees;
 pub use checksum::crc32c;
 pub use entries::{Mode, TreeEntry, TreeFault};
 pub use fault::FolderFault;
+pub use folders::folder_id;
 pub use laws::checksum_goes_on;
 pub use objects::blob_id;
 pub use packages::installed;
