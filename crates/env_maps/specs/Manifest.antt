@@ -10,6 +10,7 @@ use Rattle.pkg_world.specs.declared.cause.Cause.{Cause}
 use Rattle.pkg_world.specs.Path.{Path, joined, folder_of, path_text}
 use Rattle.pkg_world.specs.Tree.{Files, Content, file_bytes, holds, is_file}
 use Rattle.toml_view.specs.Causes.{caused, then_read}
+use Rattle.env_maps.specs.Active.{first_there}
 use Rattle.env_maps.specs.Project.{Project, of_bytes}
 use Rattle.env_maps.specs.declared.stanza.Stanza.{Stanza}
 use Rattle.env_maps.specs.declared.stanza.Entry.{Entry}
@@ -86,8 +87,7 @@ resolved folder ((name, list) ∷ more) = chained (λ stanzas. mapped (λ rest. 
 
 -- the manifest beside a project file: the first that is there of the two names, else the second
 abbrev pub manifest_beside : Files → Path → Path
-manifest_beside files folder =
-    if is_file (holds (folder ++ codes "JuliaManifest.toml" ∷ []) files) then folder ++ codes "JuliaManifest.toml" ∷ [] else folder ++ codes "Manifest.toml" ∷ []
+manifest_beside files folder = first_there files folder (codes "JuliaManifest.toml") (codes "Manifest.toml")
 
 -- a path that is not the project file's own
 abbrev pub apart_from : Path → Option Path → Option Path

@@ -6,8 +6,8 @@ use Rattle.pkg_world.specs.declared.cause.Cause.TheVariants.{BadShape}
 use Rattle.env_maps.specs.declared.stanza.Stanza.{Stanza}
 use Rattle.env_maps.specs.declared.fault.EnvFault.{EnvFault}
 use Rattle.env_maps.specs.declared.fault.EnvFault.TheVariants.{ReadFault, BadFile, Memory}
-use Rattle.env_maps.specs.declared.halt.Halt.{Halt}
-use Rattle.env_maps.specs.declared.halt.Halt.TheVariants.{Refused, Memory as HaltMemory}
+use Rattle.toml_view.specs.declared.halt.Halt.{Halt}
+use Rattle.toml_view.specs.declared.halt.Halt.TheVariants.{Refused, Memory as HaltMemory}
 use Rattle.env_maps.specs.Maps.{Read}
 use Rattle.env_maps.specs.Answers.{Refuses}
 

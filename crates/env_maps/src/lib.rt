@@ -3,15 +3,18 @@
 
 mod active;
 mod entry;
+mod environment_text;
 mod environment;
 mod fault;
 mod file;
+mod folders;
 mod id;
 pub mod laws;
 mod manifest;
 mod manifest_path;
 mod project;
 mod stanza;
+mod there;
 
 pub use active::active_project;
 pub use environment::ProjectEnv;

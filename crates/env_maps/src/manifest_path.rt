@@ -3,14 +3,15 @@ ghost use Rattle.std.specs.Prelude.{◌≡◌, ◌≤◌, Some, codes, IfSome, I
 ghost use Rattle.pkg_world.specs.Path.{joined};
 ghost use Rattle.env_maps.specs.Maps.{at_file};
 ghost use Rattle.toml_view.specs.Causes.{caused};
-ghost use Rattle.env_maps.specs.Manifest.{manifest_beside as manifest_near, manifest_path as path_meant, apart_or_refused};
+ghost use Rattle.env_maps.specs.Manifest.{manifest_path as path_meant, apart_or_refused};
 ghost use Rattle.env_maps.specs.Answers.{Loads};
 ghost use Rattle.env_maps.specs.Views.{RefusesFile, RefusesManifest};
 ghost use Rattle.env_maps.specs.Faults.{OnlyReadFault, NoReadFault, ReadFaultRose};
 
 use crate::fault::EnvFault;
 use crate::project::Project;
-use pkg_world::{Cause, Duplicate, KindAnswer, Name, NormPath, PathFault, Store, Text};
+use crate::there::first_there;
+use pkg_world::{Cause, Duplicate, Name, NormPath, PathFault, Store, Text};
 use std::alloc::{AllocError, Global};
 use toml_view::Halt;
 
@@ -30,7 +31,7 @@ pub(crate) fn manifest_path<S: Store>(
 {
     let folder = file.folder(alloc)?;
     match project.manifest() {
-        None => manifest_beside(alloc, store, &folder),
+        None => first_there(alloc, store, &folder, "JuliaManifest.toml", "Manifest.toml"),
         Some(text) => named_manifest(alloc, file, &folder, text),
     }
 }
@@ -78,27 +79,6 @@ fn manifest_key(alloc: Global) -> Result<Text, AllocError>
     ensures { IfOk result (λ keys. keys ≡ codes "manifest") }
 {
     Text::of(alloc, "manifest")
-}
-
-fn manifest_beside<S: Store>(
-    alloc: Global,
-    store: &mut S,
-    folder: &NormPath,
-) -> Result<NormPath, EnvFault>
-    ensures path { IfSome (S.files store.old) (λ all. IfOk result (λ path. manifest_near all folder.now ≡ path)) }
-    ensures refused { IfErr result (OnlyReadFault (S.read_faults store.old) (S.read_faults store.new)) }
-    ensures files { S.files store.new ≡ S.files store.old }
-    ensures later { S.read_faults store.old ≤ S.read_faults store.new }
-    ensures other { S.write_faults store.new ≡ S.write_faults store.old }
-{
-    let preferred = folder.child(alloc, "JuliaManifest.toml")?;
-    match store.kind(alloc, &preferred) {
-        KindAnswer::File => Ok(preferred),
-        KindAnswer::Folder => Ok(folder.child(alloc, "Manifest.toml")?),
-        KindAnswer::Missing => Ok(folder.child(alloc, "Manifest.toml")?),
-        KindAnswer::Failed => Err(EnvFault::ReadFault(preferred)),
-        KindAnswer::Memory => Err(EnvFault::Memory),
-    }
 }
 
 /// The refusal of a file.

@@ -16,6 +16,8 @@ mod readers;
 mod resolving;
 mod sorting;
 mod stanza;
+#[cfg(test)]
+mod tests;
 
 pub use fault::ManifestFault;
 pub use manifest::Manifest;

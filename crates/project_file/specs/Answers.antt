@@ -1,0 +1,47 @@
+-- What each answer of the crate's calls tells.
+use Rattle.std.specs.Prelude.{◌≡◌, ℕ, List, [], Option, Some, None, Result, Ok, Err, MatchResult}
+use Rattle.std.specs.Option.{unwrap_or}
+use Rattle.pkg_world.specs.declared.cause.Cause.{Cause}
+use Rattle.pkg_world.specs.declared.cause.Cause.TheVariants as causes
+use Rattle.toml_view.specs.Answers.{Refuses as StopRefuses}
+use Rattle.toml_view.specs.declared.refusal.Refusal.{Refusal}
+use Rattle.toml_view.specs.declared.refusal.Stop.{Stop}
+use Rattle.toml_view.specs.declared.refusal.Stop.TheVariants as stops
+use Rattle.toml_view.specs.declared.document.ViewFault.{ViewFault}
+use Rattle.toml_view.specs.declared.document.ViewFault.TheVariants as views
+use Rattle.project_file.specs.Projects.{caused_by}
+use Rattle.project_file.specs.declared.fault.ProjectFault.{ProjectFault}
+use Rattle.project_file.specs.declared.fault.ProjectFault.TheVariants.{BadToml, Deep, BadShape, BadVersion, BadSpec, Memory}
+
+-- the cause that a fault names; want of memory names none
+abbrev pub cause_named : ProjectFault → Option Cause
+cause_named BadToml = Some causes.BadToml
+cause_named Deep = Some causes.Deep
+cause_named (BadShape path) = Some (causes.BadShape path)
+cause_named (BadVersion path place) = Some (causes.BadVersion path place)
+cause_named (BadSpec path place) = Some (causes.BadSpec path place)
+cause_named Memory = None
+
+-- what a fault says of the reading; want of memory tells nothing
+abbrev pub Refuses : {T : Type 0} → Result T Cause → ProjectFault → Type 0
+Refuses reading BadToml = reading ≡ Err causes.BadToml
+Refuses reading Deep = reading ≡ Err causes.Deep
+Refuses reading (BadShape path) = reading ≡ Err (causes.BadShape path)
+Refuses reading (BadVersion path place) = reading ≡ Err (causes.BadVersion path place)
+Refuses reading (BadSpec path place) = reading ≡ Err (causes.BadSpec path place)
+Refuses reading Memory = Unit {0}
+
+-- the fault of bytes without a table
+abbrev pub IsUnviewed : ViewFault → ProjectFault → Type 0
+IsUnviewed views.BadToml fault = fault ≡ BadToml
+IsUnviewed views.Deep fault = fault ≡ Deep
+IsUnviewed views.Memory fault = fault ≡ Memory
+
+-- the fault of a stopped reading
+abbrev pub IsFaultOf : Stop → ProjectFault → Type 0
+IsFaultOf (stops.Refused refusal) fault = cause_named fault ≡ Some (caused_by (unwrap_or refusal.path []) refusal.flaw)
+IsFaultOf stops.Memory fault = fault ≡ Memory
+
+-- what a reading of a table tells
+abbrev pub Gives : {S T : Type 0} → (S → T) → Result S Stop → Result T Refusal → Type 0
+Gives shown answer reading = MatchResult answer (λ value. reading ≡ Ok (shown value)) (λ stop. StopRefuses stop reading)

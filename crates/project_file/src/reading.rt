@@ -1,0 +1,109 @@
+//! Reading a project file.
+ghost use Rattle.std.specs.Prelude.{◌≡◌, ◌==◌, Ok, IfOk, IfErr, MatchResult, IsTrue};
+ghost use Rattle.toml.specs.View.{table_view};
+ghost use Rattle.toml_view.specs.Answers.{HasPath, Refuses as StopRefuses};
+ghost use Rattle.project_file.specs.Answers.{Refuses};
+ghost use Rattle.project_file.specs.Chain.{project_chain};
+ghost use Rattle.project_file.specs.Keys.{unnamed, is_named, names_none};
+ghost use Rattle.project_file.specs.Projects.{project_of, read_of, caused};
+ghost use Rattle.project_file.specs.Said.{said};
+
+use crate::fault::{ProjectFault, fault_of, unviewed};
+use crate::project::Project;
+use crate::source::SourceReader;
+use crate::spec_text::SpecReader;
+use crate::triggers::TriggersReader;
+use std::alloc::Global;
+use toml_view::{NameReader, Stop, Table, UuidReader, VersionReader, opt, table_at, view};
+
+impl Project {
+    /// The project of a file's bytes (Pkg, Project.toml). The keys `name`, `uuid`, `version`, `deps`, `weakdeps`,
+    /// `extensions`, `compat`, `extras`, `sources` and `manifest` are read, where they are there; every other key is
+    /// kept in `rest`.
+    ///
+    /// The bytes are refused as BadToml where they are no TOML text, and as Deep where tables and lists nest deeper
+    /// than 64. Else the first refusal in key order answers: BadShape of the path of a value of another kind, BadVersion
+    /// of a text that is no version, BadSpec of a text that is no specifier. Memory comes where memory ran out.
+    pub fn read(alloc: Global, bytes: &[u8]) -> Result<Project, ProjectFault>
+        // What is read is what the bytes say, and a refusal is the one that they call for.
+        ensures told { MatchResult result (λ project. read_of bytes.now ≡ Ok (said project)) (Refuses (read_of bytes.now)) }
+        // No key of the rest is a named one.
+        ensures plain { IfOk result (λ project. IsTrue (names_none (table_view project.rest))) }
+    {
+        match view(alloc, bytes) {
+            Ok(table) => of_table(alloc, table),
+            Err(fault) => Err(unviewed(fault)),
+        }
+    }
+}
+
+/// The project of a table.
+#[tactic(auto, using(crate::proofs::Orders::project_in_order))]
+fn of_table(alloc: Global, table: Table) -> Result<Project, ProjectFault>
+    ensures told { MatchResult result (λ project. caused (project_of (table_view table)) ≡ Ok (said project)) (Refuses (caused (project_of (table_view table)))) }
+    ensures plain { IfOk result (λ project. IsTrue (names_none (table_view project.rest))) }
+{
+    match read_keys(alloc, table) {
+        Ok(project) => Ok(project),
+        Err(stop) => Err(fault_of(stop)),
+    }
+}
+
+/// The readings of the named keys, in the order of their bytes.
+#[tactic(auto, unfolding(crate::specs::Chain::project_chain, crate::specs::Said::said))]
+fn read_keys(alloc: Global, table: Table) -> Result<Project, Stop>
+    ensures ok { IfOk result (λ project. project_chain (table_view table) ≡ Ok (said project)) }
+    ensures err { IfErr result (λ stop. StopRefuses stop (project_chain (table_view table))) }
+    ensures path { IfErr result HasPath }
+    ensures plain { IfOk result (λ project. IsTrue (names_none (table_view project.rest))) }
+{
+    let compat = table_at(alloc, SpecReader, &table, "compat")?.into_list();
+    let deps = table_at(alloc, UuidReader, &table, "deps")?.into_list();
+    let extensions = table_at(alloc, TriggersReader, &table, "extensions")?.into_list();
+    let extras = table_at(alloc, UuidReader, &table, "extras")?.into_list();
+    let manifest = opt(alloc, &NameReader, &table, "manifest")?;
+    let name = opt(alloc, &NameReader, &table, "name")?;
+    let sources = table_at(alloc, SourceReader, &table, "sources")?.into_list();
+    let uuid = opt(alloc, &UuidReader, &table, "uuid")?;
+    let version = opt(alloc, &VersionReader, &table, "version")?;
+    let weakdeps = table_at(alloc, UuidReader, &table, "weakdeps")?.into_list();
+    Ok(Project {
+        name,
+        uuid,
+        version,
+        deps,
+        weakdeps,
+        extensions,
+        compat,
+        extras,
+        sources,
+        manifest,
+        rest: without_named(table),
+    })
+}
+
+/// The table without the named keys.
+fn without_named(mut table: Table) -> Table
+    ensures rest { table_view result ≡ unnamed (table_view table) }
+    ensures plain { IsTrue (names_none (table_view result)) }
+{
+    table.retain(|key, _| !names(key.as_str()));
+    table
+}
+
+/// Whether the key is a named one.
+#[tactic(auto, unfolding(crate::specs::Keys::is_named))]
+fn names(key: &str) -> bool
+    ensures { result ≡ is_named key.now }
+{
+    key == "name"
+        || key == "uuid"
+        || key == "version"
+        || key == "deps"
+        || key == "weakdeps"
+        || key == "extensions"
+        || key == "compat"
+        || key == "extras"
+        || key == "sources"
+        || key == "manifest"
+}
