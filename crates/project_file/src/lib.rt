@@ -3,10 +3,13 @@
 
 mod fault;
 mod project;
+mod putting;
 mod reading;
 mod source;
 mod spec_text;
+mod tables;
 mod triggers;
+mod writes;
 
 pub use fault::ProjectFault;
 pub use project::{Project, SourceList, SpecList};

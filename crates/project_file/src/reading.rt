@@ -5,7 +5,8 @@ ghost use Rattle.toml_view.specs.Answers.{HasPath, Refuses as StopRefuses};
 ghost use Rattle.project_file.specs.Answers.{Refuses};
 ghost use Rattle.project_file.specs.Chain.{project_chain};
 ghost use Rattle.project_file.specs.Keys.{unnamed, is_named, names_none};
-ghost use Rattle.project_file.specs.Projects.{project_of, read_of, caused};
+ghost use Rattle.project_file.specs.Projects.{project_of, read_of};
+ghost use Rattle.toml_view.specs.Causes.{caused};
 ghost use Rattle.project_file.specs.Said.{said};
 
 use crate::fault::{ProjectFault, fault_of, unviewed};
