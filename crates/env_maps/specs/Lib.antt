@@ -1,11 +1,6 @@
 pub mod Active
 pub mod Faults
 pub mod Seen
-pub mod Project
-pub mod Manifest
+pub mod Files
+pub mod ManifestPath
 pub mod Maps
-pub mod Answers
-pub mod Owns
-pub mod Stanzas
-pub mod Views
-pub mod KeyOrder

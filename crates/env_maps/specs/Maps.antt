@@ -1,47 +1,76 @@
 -- The environment of a project and its maps (Julia manual, Code Loading): names to identities, and identities to entry paths.
-use Rattle.std.specs.Prelude.{ℕ, Bool, true, false, not, ◌&&◌, if◌then◌else◌, List, [], ◌∷◌, ◌++◌, codes, Option, Some, None, Result, Ok, Err}
+use Rattle.std.specs.Prelude.{◌≡◌, MatchOption, ℕ, Bool, true, false, not, ◌&&◌, if◌then◌else◌, List, [], ◌∷◌, ◌++◌, codes, Option, Some, None, option_map, Result, Ok, Err}
+use Rattle.std.specs.Option.{option_and_then}
 use Rattle.std.specs.Str.{bytes_eq}
+use Rattle.std.specs.Borrow.{Bor}
 use Rattle.pkg_world.specs.Path.{Path, joined, folder_of}
 use Rattle.pkg_world.specs.Tree.{Files, holds, is_file}
+use Rattle.pkg_world.specs.declared.place.Place.{Place}
 use Rattle.pkg_world.specs.declared.cause.Cause.{Cause}
+use Rattle.pkg_world.specs.declared.cause.Cause.TheVariants.{BadShape}
+use Rattle.project_file.specs.Said as project
+use Rattle.manifest_file.specs.Saying as manifest
+use Rattle.manifest_file.specs.Saying.{SaidStanza}
+use Rattle.manifest_file.specs.declared.origin.Origin.{Origin}
+use Rattle.manifest_file.specs.declared.origin.Origin.TheVariants.{Tree, Path as PathOrigin, Repo, Std}
+use Rattle.depot_hash.specs.Installed.{installed_in}
 use Rattle.env_maps.specs.declared.id.Id.{Id}
-use Rattle.env_maps.specs.declared.stanza.Stanza.{Stanza}
-use Rattle.toml_view.specs.Causes.{caused}
-use Rattle.env_maps.specs.Project.{Project, no_project, project_in}
-use Rattle.env_maps.specs.Manifest.{manifest_path, stanzas_in}
+use Rattle.env_maps.specs.Files.{Read, at_file, then_file, project_in, manifest_in}
+use Rattle.env_maps.specs.ManifestPath.{manifest_path}
 
--- a project, where its file is or would be, and the stanzas of its manifest
+-- a project, where its file is or would be, and the stanzas of its manifest with the folder from which their paths go
 pub record Env : Type 0 where
   pub file : Path
-  pub project : Project
-  pub stanzas : List Stanza
+  pub project : Option project.Said
+  pub folder : Path
+  pub stanzas : List SaidStanza
+  pub depots : List Path
 
--- what a file gives, or that file and why it is refused
-abbrev pub Read : Type 0 → Type 0
-Read T = Result T (Path × Cause)
+-- whether a path is none
+abbrev pub is_absent : Option Path → Bool
+is_absent None = true
+is_absent (Some path) = false
 
-abbrev pub at_file : {T : Type 0} → Path → Result T Cause → Read T
-at_file file (Ok value) = Ok value
-at_file file (Err cause) = Err (file, cause)
+-- whether the path of a stanza rises above the root
+abbrev pub escapes : Path → Origin → Bool
+escapes folder (PathOrigin text) = is_absent (joined folder text)
+escapes folder (Tree tree) = false
+escapes folder (Repo url rev subdir tree) = false
+escapes folder Std = false
 
--- one file and then the next: the first refusal counts
-abbrev pub then_file : {S T : Type 0} → Read S → (S → Read T) → Read T
-then_file (Ok value) next = next value
-then_file (Err refused) next = Err refused
+-- the name of the first stanza whose path rises above the root
+abbrev pub first_escaping : Path → List SaidStanza → Option (List ℕ)
+first_escaping folder [] = None
+first_escaping folder (stanza ∷ more) = if escapes folder stanza.origin then Some stanza.name else first_escaping folder more
 
-abbrev pub with_stanzas : Path → Project → Read (List Stanza) → Read Env
-with_stanzas file project (Ok stanzas) = Ok (record { file = file; project = project; stanzas = stanzas })
-with_stanzas file project (Err refused) = Err refused
+-- the key path of a stanza's path
+abbrev pub path_keys : List ℕ → List ℕ
+path_keys name = codes "deps." ++ (name ++ codes ".path")
+
+abbrev pub unless_escaping : {T : Type 0} → Option (List ℕ) → T → Result T Cause
+unless_escaping None value = Ok value
+unless_escaping (Some name) value = Err (BadShape (path_keys name))
+
+-- the environment of a project and the stanzas of its manifest; a stanza's path that rises above the root is refused
+abbrev pub env_of : Place → Path → project.Said → Path → manifest.Said → Read Env
+env_of place file said path found =
+    at_file path (unless_escaping (first_escaping (folder_of path) found.stanzas)
+        (record { file = file; project = Some said; folder = folder_of path; stanzas = found.stanzas; depots = place.depots.items }))
+
+abbrev pub env_at : Files → Place → Path → project.Said → Path → Read Env
+env_at files place file said path = then_file (at_file path (manifest_in (holds path files))) (env_of place file said path)
+
+abbrev pub no_env : Place → Path → Env
+no_env place file = record { file = file; project = None; folder = folder_of file; stanzas = []; depots = place.depots.items }
 
 -- a project file that isn't there gives an environment without entries, whatever manifest lies beside it
-abbrev pub env_with : Files → Path → Option Project → Read Env
-env_with files file None = Ok (record { file = file; project = no_project; stanzas = [] })
-env_with files file (Some project) =
-    then_file (at_file file (caused (manifest_path files file project))) (λ manifest. with_stanzas file project (at_file manifest (stanzas_in files manifest)))
+abbrev pub env_with : Files → Place → Path → Option project.Said → Read Env
+env_with files place file None = Ok (no_env place file)
+env_with files place file (Some said) = then_file (at_file file (manifest_path files file said.manifest)) (env_at files place file said)
 
 -- the environment of a project file: the file itself, then its manifest
-abbrev pub env_in : Files → Path → Read Env
-env_in files file = then_file (at_file file (project_in (holds file files))) (env_with files file)
+abbrev pub env_in : Files → Place → Path → Read Env
+env_in files place file = then_file (at_file file (project_in (holds file files))) (env_with files place file)
 
 -- the identity of the project's own package, where the file has both name and identifier
 abbrev pub own_of : Option (List ℕ) → Option (List ℕ) → Option Id
@@ -49,8 +78,23 @@ own_of (Some name) (Some uuid) = Some (record { uuid = Some uuid; name = name })
 own_of (Some name) None = None
 own_of None uuid = None
 
-abbrev pub own : Project → Option Id
-own project = own_of project.name project.uuid
+abbrev pub own_in : Option project.Said → Option Id
+own_in None = None
+own_in (Some said) = own_of said.name said.uuid
+
+abbrev pub own : Env → Option Id
+own env = own_in env.project
+
+-- what is told of the own package: its name and its identifier
+abbrev pub OwnIs : Option Id → Option (Bor (List ℕ) × List ℕ) → Type 0
+OwnIs meant found = MatchOption found (meant ≡ None) (λ x. meant ≡ Some (record { uuid = Some x.1; name = x.0.now }))
+
+abbrev pub OwnGives : Env → Option (Bor (List ℕ) × List ℕ) → Type 0
+OwnGives env found = OwnIs (own env) found
+
+abbrev pub deps_in : Option project.Said → List (List ℕ × List ℕ)
+deps_in None = []
+deps_in (Some said) = said.deps
 
 -- the identity that a dependency's name has
 abbrev pub dep_of : List ℕ → List (List ℕ × List ℕ) → Option Id
@@ -64,7 +108,7 @@ own_or name (Some id) dep = if bytes_eq id.name name then Some id else dep
 
 -- names to identities: the project's own name, then its dependencies
 abbrev pub root_of : Env → List ℕ → Option Id
-root_of env name = own_or name (own env.project) (dep_of name env.project.deps)
+root_of env name = own_or name (own env) (dep_of name (deps_in env.project))
 
 -- two identifiers, or none, that are the same
 abbrev pub same_uuid : Option (List ℕ) → Option (List ℕ) → Bool
@@ -77,7 +121,7 @@ is_identity id None = false
 is_identity id (Some other) = bytes_eq other.name id.name && same_uuid other.uuid id.uuid
 
 -- the first stanza of an identity
-abbrev pub stanza_of : Id → List Stanza → Option Stanza
+abbrev pub stanza_of : Id → List SaidStanza → Option SaidStanza
 stanza_of id [] = None
 stanza_of id (stanza ∷ more) = if bytes_eq stanza.name id.name && same_uuid (Some stanza.uuid) id.uuid then Some stanza else stanza_of id more
 
@@ -89,27 +133,37 @@ source_text name = codes "src/" ++ (name ++ codes ".jl")
 abbrev pub entry_at : Files → List ℕ → Path → Option Path
 entry_at files name path = if is_file (holds path files) then Some path else joined path (source_text name)
 
-abbrev pub entry_of : Files → List ℕ → Option Path → Option Path
-entry_of files name None = None
-entry_of files name (Some path) = entry_at files name path
+-- the entry of an installed tree is `src/X.jl` inside; none where none is installed
+abbrev pub source_in : List ℕ → Option Path → Option Path
+source_in name folder = option_and_then (λ tree. joined tree (source_text name)) folder
 
-abbrev pub stanza_entry : Files → Option Stanza → Option Path
-stanza_entry files None = None
-stanza_entry files (Some stanza) = entry_of files stanza.name stanza.path
+-- the entry by where the package comes from; one of the standard library has no entry that is read yet
+abbrev pub origin_entry : Files → List Path → Path → List ℕ → List ℕ → Origin → Option Path
+origin_entry files depots folder name uuid (PathOrigin text) = option_and_then (entry_at files name) (joined folder text)
+origin_entry files depots folder name uuid (Tree tree) = source_in name (installed_in files depots name uuid tree)
+origin_entry files depots folder name uuid (Repo url rev subdir tree) = source_in name (installed_in files depots name uuid tree)
+origin_entry files depots folder name uuid Std = None
+
+abbrev pub stanza_entry : Files → List Path → Path → Option SaidStanza → Option Path
+stanza_entry files depots folder None = None
+stanza_entry files depots folder (Some stanza) = origin_entry files depots folder stanza.name stanza.uuid stanza.origin
 
 -- identities to paths: the project's own package has `src/X.jl` beside the project file, and comes before a stanza
 abbrev pub path_of : Files → Env → Id → Option Path
 path_of files env id =
-    if is_identity id (own env.project) then joined (folder_of env.file) (source_text id.name) else stanza_entry files (stanza_of id env.stanzas)
+    if is_identity id (own env) then joined (folder_of env.file) (source_text id.name)
+    else stanza_entry files env.depots env.folder (stanza_of id env.stanzas)
 
-abbrev pub is_absent : Option Path → Bool
-is_absent None = true
-is_absent (Some path) = false
+abbrev pub is_std_origin : Origin → Bool
+is_std_origin Std = true
+is_std_origin (PathOrigin text) = false
+is_std_origin (Tree tree) = false
+is_std_origin (Repo url rev subdir tree) = false
 
--- a stanza without a path has a form whose entry is not read yet
-abbrev pub lacks_path : Option Stanza → Bool
-lacks_path None = false
-lacks_path (Some stanza) = is_absent stanza.path
+abbrev pub is_std : Option SaidStanza → Bool
+is_std None = false
+is_std (Some stanza) = is_std_origin stanza.origin
 
+-- a stanza of the standard library has a form whose entry is not read yet
 abbrev pub is_unbuilt : Env → Id → Bool
-is_unbuilt env id = not (is_identity id (own env.project)) && lacks_path (stanza_of id env.stanzas)
+is_unbuilt env id = not (is_identity id (own env)) && is_std (stanza_of id env.stanzas)

@@ -1,12 +1,15 @@
 //! The active project's file.
-ghost use Rattle.std.specs.Prelude.{◌≡◌, ◌≤◌, ℕ, List, IfSome, IfOk, IfErr, string_bytes};
+ghost use Rattle.std.specs.Prelude.{◌≡◌, ◌≢◌, ◌==◌, ◌≤◌, ℕ, List, Some, length, true, false, MatchOption, IfSome, IfOk, IfErr};
+ghost use Rattle.std.specs.List.{position_or_len, after_first};
 ghost use Rattle.pkg_world.specs.Path.{joined};
 ghost use Rattle.env_maps.specs.Active as spec;
 ghost use Rattle.env_maps.specs.Faults.{OnlyReadFault};
 ghost use Rattle.env_maps.specs.Seen.{active_of};
 
+use crate::environment_text::{environment_text, version_folder};
 use crate::fault::EnvFault;
-use pkg_world::{Duplicate, KindAnswer, NormPath, PathFault, Place, Store};
+use crate::folders::{file_in, first_environment, in_first, nearest};
+use pkg_world::{Duplicate, NormPath, PathFault, Place, Store};
 use std::alloc::{AllocError, Global};
 
 /// Where the place's project text points.
@@ -16,11 +19,19 @@ enum Active {
     TheFile(NormPath),
 }
 
-/// The path of the active project's file, which need not be there: what the place's project text means from the
-/// current folder. A path whose last part ends in `.toml` is that file, any other is a folder, whose project file is
-/// `JuliaProject.toml` where that is there, else `Project.toml`. Without a text the folder is
-/// `environments/vMAJOR.MINOR` in the first depot, or the current folder without a depot; an empty text and a path
-/// that rises above the root stand for the current folder. (Julia manual, Code Loading; the last two are our own.)
+/// The path of the active project's file, which need not be there: what the place's project text means. (Julia manual,
+/// Code Loading; what stands for the current folder is our own.)
+///
+/// A path, from the current folder, whose last part ends in `.toml` is that file. Any other is a folder, whose project
+/// file is `JuliaProject.toml` where that is there, else `Project.toml`. The other texts mean a folder:
+///
+/// - no text, and `@`: `environments/vMAJOR.MINOR` in the first depot, or the current folder without a depot;
+/// - `@.`: the nearest folder with a project file, from the current folder up to the root;
+/// - `@NAME`: the first depot's `environments/NAME` that has a project file, where the first three `#` are the numbers
+///   of Julia's version; where no depot has it, that of the first depot.
+///
+/// An empty text, `@stdlib`, an `@.` that finds nothing, a path that rises above the root, and an `@NAME` without a
+/// depot stand for the current folder.
 ///
 /// Errors: ReadFault, where the store can't tell what is there, and want of memory.
 pub fn active_project<S: Store>(
@@ -34,28 +45,66 @@ pub fn active_project<S: Store>(
     ensures later { S.read_faults store.old ≤ S.read_faults store.new }
     ensures other { S.write_faults store.new ≡ S.write_faults store.old }
 {
-    match named_by(alloc, place)? {
-        Active::InFolder(folder) => file_in(alloc, store, &folder),
-        Active::TheFile(path) => Ok(path),
+    match named_by(alloc, store, place) {
+        Ok(Active::InFolder(folder)) => file_in(alloc, store, &folder),
+        Ok(Active::TheFile(path)) => Ok(path),
+        Err(fault) => Err(fault),
     }
 }
 
-fn named_by(alloc: Global, place: &Place) -> Result<Active, AllocError>
-    ensures { IfOk result (λ active. active_of active ≡ spec.named_by place.now place.now.project) }
+fn named_by<S: Store>(alloc: Global, store: &mut S, place: &Place) -> Result<Active, EnvFault>
+    ensures active { IfSome (S.files store.old) (λ all. IfOk result (λ active. active_of active ≡ spec.named_by all place.now place.now.project)) }
+    ensures refused { IfErr result (OnlyReadFault (S.read_faults store.old) (S.read_faults store.new)) }
+    ensures files { S.files store.new ≡ S.files store.old }
+    ensures later { S.read_faults store.old ≤ S.read_faults store.new }
+    ensures other { S.write_faults store.new ≡ S.write_faults store.old }
 {
     match &place.project {
-        Some(text) => by_text(alloc, &place.cwd, text.as_str()),
+        Some(text) => by_text(alloc, store, place, text.as_str()),
         None => Ok(Active::InFolder(default_folder(alloc, place)?)),
     }
 }
 
-fn by_text(alloc: Global, cwd: &NormPath, text: &str) -> Result<Active, AllocError>
-    ensures { IfOk result (λ active. active_of active ≡ spec.by_text cwd.now text.now) }
+#[tactic(auto, unfolding(crate::specs::Active::by_text))]
+fn by_text<S: Store>(
+    alloc: Global,
+    store: &mut S,
+    place: &Place,
+    text: &str,
+) -> Result<Active, EnvFault>
+    ensures active { IfSome (S.files store.old) (λ all. IfOk result (λ active. active_of active ≡ spec.by_text all place.now text.now)) }
+    ensures refused { IfErr result (OnlyReadFault (S.read_faults store.old) (S.read_faults store.new)) }
+    ensures files { S.files store.new ≡ S.files store.old }
+    ensures later { S.read_faults store.old ≤ S.read_faults store.new }
+    ensures other { S.write_faults store.new ≡ S.write_faults store.old }
 {
     if text.is_empty() {
-        Ok(Active::InFolder(cwd.copy(alloc)?))
-    } else {
-        by_join(alloc, cwd, text)
+        return Ok(Active::InFolder(place.cwd.copy(alloc)?));
+    }
+    match behind_sign(text) {
+        Some(name) => match by_sign(alloc, store, place, name) {
+            Ok(folder) => Ok(Active::InFolder(folder)),
+            Err(fault) => Err(fault),
+        },
+        None => Ok(by_join(alloc, &place.cwd, text)?),
+    }
+}
+
+/// What follows an at sign that comes first in a text.
+fn behind_sign(text: &str) -> Option<&str>
+    requires { length text.now ≢ 0 }
+    ensures { MatchOption result ((position_or_len spec.is_sign text.now == 0) ≡ false)
+        (λ name. ((position_or_len spec.is_sign text.now == 0) ≡ true) × (name.now ≡ after_first spec.is_sign text.now)) }
+{
+    match text.split_once('@') {
+        Some((front, name)) => {
+            if front.is_empty() {
+                Some(name)
+            } else {
+                None
+            }
+        }
+        None => None,
     }
 }
 
@@ -79,43 +128,93 @@ fn by_path(path: NormPath) -> Active
     }
 }
 
-/// The folder where no text names a project.
-fn default_folder(alloc: Global, place: &Place) -> Result<NormPath, AllocError>
-    ensures { IfOk result (λ path. path ≡ spec.default_folder place.now.cwd place.now.julia place.now.depots.items) }
-{
-    let Some(depot) = place.depots.items().first() else {
-        return place.cwd.copy(alloc);
-    };
-    let name = version_folder(alloc, &place.julia)?;
-    match NormPath::join(alloc, depot, name.as_str()) {
-        Ok(path) => Ok(path),
-        Err(PathFault::Escapes) => place.cwd.copy(alloc),
-        Err(PathFault::Memory) => Err(AllocError),
-    }
-}
-
-fn version_folder(alloc: Global, julia: &[u32; 3]) -> Result<String, AllocError>
-    ensures { IfOk result (λ name. string_bytes name ≡ spec.version_folder julia.now) }
-{
-    let major = julia[0];
-    let minor = julia[1];
-    format!(in alloc; "environments/v{major}.{minor}")
-}
-
-/// The project file of a folder.
-fn file_in<S: Store>(alloc: Global, store: &mut S, folder: &NormPath) -> Result<NormPath, EnvFault>
-    ensures path { IfSome (S.files store.old) (λ all. IfOk result (λ path. spec.file_in all folder.now ≡ path)) }
+/// The folder that the text behind an at sign means.
+#[tactic(auto, unfolding(crate::specs::Active::by_sign))]
+fn by_sign<S: Store>(
+    alloc: Global,
+    store: &mut S,
+    place: &Place,
+    name: &str,
+) -> Result<NormPath, EnvFault>
+    ensures path { IfSome (S.files store.old) (λ all. IfOk result (λ path. path ≡ spec.by_sign all place.now name.now)) }
     ensures refused { IfErr result (OnlyReadFault (S.read_faults store.old) (S.read_faults store.new)) }
     ensures files { S.files store.new ≡ S.files store.old }
     ensures later { S.read_faults store.old ≤ S.read_faults store.new }
     ensures other { S.write_faults store.new ≡ S.write_faults store.old }
 {
-    let preferred = folder.child(alloc, "JuliaProject.toml")?;
-    match store.kind(alloc, &preferred) {
-        KindAnswer::File => Ok(preferred),
-        KindAnswer::Folder => Ok(folder.child(alloc, "Project.toml")?),
-        KindAnswer::Missing => Ok(folder.child(alloc, "Project.toml")?),
-        KindAnswer::Failed => Err(EnvFault::ReadFault(preferred)),
-        KindAnswer::Memory => Err(EnvFault::Memory),
+    if name.is_empty() {
+        Ok(default_folder(alloc, place)?)
+    } else if name == "." {
+        nearest_or(alloc, store, &place.cwd)
+    } else if name == "stdlib" {
+        Ok(place.cwd.copy(alloc)?)
+    } else {
+        by_name(alloc, store, place, name)
     }
+}
+
+/// The folder of a named environment.
+fn by_name<S: Store>(
+    alloc: Global,
+    store: &mut S,
+    place: &Place,
+    name: &str,
+) -> Result<NormPath, EnvFault>
+    ensures path { IfSome (S.files store.old) (λ all. IfOk result (λ path. path ≡ spec.by_environment all place.now (spec.environment_text place.now.julia name.now))) }
+    ensures refused { IfErr result (OnlyReadFault (S.read_faults store.old) (S.read_faults store.new)) }
+    ensures files { S.files store.new ≡ S.files store.old }
+    ensures later { S.read_faults store.old ≤ S.read_faults store.new }
+    ensures other { S.write_faults store.new ≡ S.write_faults store.old }
+{
+    match environment_text(alloc, &place.julia, name) {
+        Ok(text) => by_environment(alloc, store, place, text.as_str()),
+        Err(_) => Err(EnvFault::Memory),
+    }
+}
+
+/// The nearest folder with a project file, else the folder itself.
+fn nearest_or<S: Store>(
+    alloc: Global,
+    store: &mut S,
+    folder: &NormPath,
+) -> Result<NormPath, EnvFault>
+    ensures path { IfSome (S.files store.old) (λ all. IfOk result (λ path. path ≡ spec.or_else folder.now (spec.nearest all folder.now))) }
+    ensures refused { IfErr result (OnlyReadFault (S.read_faults store.old) (S.read_faults store.new)) }
+    ensures files { S.files store.new ≡ S.files store.old }
+    ensures later { S.read_faults store.old ≤ S.read_faults store.new }
+    ensures other { S.write_faults store.new ≡ S.write_faults store.old }
+{
+    match nearest(alloc, store, folder) {
+        Ok(Some(found)) => Ok(found),
+        Ok(None) => Ok(folder.copy(alloc)?),
+        Err(fault) => Err(fault),
+    }
+}
+
+/// The folder of a named environment, in the first depot that has it, else in the first depot.
+fn by_environment<S: Store>(
+    alloc: Global,
+    store: &mut S,
+    place: &Place,
+    text: &str,
+) -> Result<NormPath, EnvFault>
+    ensures path { IfSome (S.files store.old) (λ all. IfOk result (λ path. path ≡ spec.by_environment all place.now text.now)) }
+    ensures refused { IfErr result (OnlyReadFault (S.read_faults store.old) (S.read_faults store.new)) }
+    ensures files { S.files store.new ≡ S.files store.old }
+    ensures later { S.read_faults store.old ≤ S.read_faults store.new }
+    ensures other { S.write_faults store.new ≡ S.write_faults store.old }
+{
+    match first_environment(alloc, store, place.depots.items(), text) {
+        Ok(Some(folder)) => Ok(folder),
+        Ok(None) => Ok(in_first(alloc, &place.cwd, place.depots.items(), text)?),
+        Err(fault) => Err(fault),
+    }
+}
+
+/// The folder where no text names a project.
+fn default_folder(alloc: Global, place: &Place) -> Result<NormPath, AllocError>
+    ensures { IfOk result (λ path. path ≡ spec.default_folder place.now) }
+{
+    let name = version_folder(alloc, &place.julia)?;
+    in_first(alloc, &place.cwd, place.depots.items(), name.as_str())
 }

@@ -1,33 +1,80 @@
 //! Entry files.
-ghost use Rattle.std.specs.Prelude.{◌≡◌, ◌≤◌, IfSome, IfOk, IfErr, string_bytes};
-ghost use Rattle.std.specs.Option.{option_copied};
+ghost use Rattle.std.specs.Prelude.{◌≡◌, ◌≤◌, IfSome, IfOk, IfErr, option_map, string_bytes};
+ghost use Rattle.std.specs.Option.{option_copied, option_and_then};
 ghost use Rattle.pkg_world.specs.Path.{joined, folder_of};
+ghost use Rattle.manifest_file.specs.Said.{said_stanza};
+ghost use Rattle.depot_hash.specs.Installed.{installed_in};
 ghost use Rattle.env_maps.specs.Maps as spec;
 ghost use Rattle.env_maps.specs.Faults.{OnlyReadFault};
 
 use crate::fault::EnvFault;
-use crate::stanza::Stanza;
-use pkg_world::{Duplicate, KindAnswer, Name, NormPath, PathFault, Store};
+use crate::there::is_there;
+use depot_hash::{FolderFault, installed};
+use manifest_file::{Origin, Stanza};
+use pkg_world::{Name, NormPath, NormPaths, PathFault, Store, TreeId};
 use std::alloc::{AllocError, Global};
+use uuid::Uuid;
 
-/// The entry file of a stanza.
+/// The entry file of a stanza, its path taken from the manifest's folder.
 pub(crate) fn stanza_entry<S: Store>(
     alloc: Global,
     store: &mut S,
+    depots: &NormPaths,
+    folder: &NormPath,
     stanza: Option<&Stanza>,
 ) -> Result<Option<NormPath>, EnvFault>
-    ensures path { IfSome (S.files store.old) (λ all. IfOk result (λ path. path ≡ spec.stanza_entry all (option_copied stanza.entry))) }
+    ensures path { IfSome (S.files store.old) (λ all. IfOk result (λ path. path ≡ spec.stanza_entry all depots.now.items folder.now (option_map said_stanza (option_copied stanza.entry)))) }
     ensures refused { IfErr result (OnlyReadFault (S.read_faults store.old) (S.read_faults store.new)) }
     ensures files { S.files store.new ≡ S.files store.old }
     ensures later { S.read_faults store.old ≤ S.read_faults store.new }
     ensures other { S.write_faults store.new ≡ S.write_faults store.old }
 {
     match stanza {
-        Some(stanza) => match &stanza.path {
-            Some(path) => entry_at(alloc, store, &stanza.name, path),
-            None => Ok(None),
-        },
+        Some(stanza) => origin_entry(alloc, store, depots, folder, stanza),
         None => Ok(None),
+    }
+}
+
+fn origin_entry<S: Store>(
+    alloc: Global,
+    store: &mut S,
+    depots: &NormPaths,
+    folder: &NormPath,
+    stanza: &Stanza,
+) -> Result<Option<NormPath>, EnvFault>
+    ensures path { IfSome (S.files store.old) (λ all. IfOk result (λ path. path ≡ spec.origin_entry all depots.now.items folder.now stanza.now.name stanza.now.uuid stanza.now.origin)) }
+    ensures refused { IfErr result (OnlyReadFault (S.read_faults store.old) (S.read_faults store.new)) }
+    ensures files { S.files store.new ≡ S.files store.old }
+    ensures later { S.read_faults store.old ≤ S.read_faults store.new }
+    ensures other { S.write_faults store.new ≡ S.write_faults store.old }
+{
+    let Stanza { name, uuid, .. } = stanza;
+    match &stanza.origin {
+        Origin::Path(text) => path_entry(alloc, store, folder, name, text),
+        Origin::Tree(tree) => tree_entry(alloc, store, depots, name, uuid, tree),
+        Origin::Repo { tree, .. } => tree_entry(alloc, store, depots, name, uuid, tree),
+        Origin::Std => Ok(None),
+    }
+}
+
+/// The entry of a package that lies at a path.
+fn path_entry<S: Store>(
+    alloc: Global,
+    store: &mut S,
+    folder: &NormPath,
+    name: &Name,
+    text: &Name,
+) -> Result<Option<NormPath>, EnvFault>
+    ensures path { IfSome (S.files store.old) (λ all. IfOk result (λ entry. entry ≡ option_and_then (spec.entry_at all name.now) (joined folder.now text.now))) }
+    ensures refused { IfErr result (OnlyReadFault (S.read_faults store.old) (S.read_faults store.new)) }
+    ensures files { S.files store.new ≡ S.files store.old }
+    ensures later { S.read_faults store.old ≤ S.read_faults store.new }
+    ensures other { S.write_faults store.new ≡ S.write_faults store.old }
+{
+    match NormPath::join(alloc, folder, text.as_str()) {
+        Ok(path) => entry_at(alloc, store, name, path),
+        Err(PathFault::Escapes) => Ok(None),
+        Err(PathFault::Memory) => Err(EnvFault::Memory),
     }
 }
 
@@ -36,20 +83,43 @@ fn entry_at<S: Store>(
     alloc: Global,
     store: &mut S,
     name: &Name,
-    path: &NormPath,
+    path: NormPath,
 ) -> Result<Option<NormPath>, EnvFault>
-    ensures path { IfSome (S.files store.old) (λ all. IfOk result (λ entry. entry ≡ spec.entry_at all name.now path.now)) }
+    ensures path { IfSome (S.files store.old) (λ all. IfOk result (λ entry. entry ≡ spec.entry_at all name.now path)) }
     ensures refused { IfErr result (OnlyReadFault (S.read_faults store.old) (S.read_faults store.new)) }
     ensures files { S.files store.new ≡ S.files store.old }
     ensures later { S.read_faults store.old ≤ S.read_faults store.new }
     ensures other { S.write_faults store.new ≡ S.write_faults store.old }
 {
-    match store.kind(alloc, path) {
-        KindAnswer::File => Ok(Some(path.copy(alloc)?)),
-        KindAnswer::Folder => Ok(source_inside(alloc, path, name)?),
-        KindAnswer::Missing => Ok(source_inside(alloc, path, name)?),
-        KindAnswer::Failed => Err(EnvFault::ReadFault(path.copy(alloc)?)),
-        KindAnswer::Memory => Err(EnvFault::Memory),
+    match is_there(alloc, store, &path) {
+        Ok(true) => Ok(Some(path)),
+        Ok(false) => Ok(source_inside(alloc, &path, name)?),
+        Err(fault) => Err(fault),
+    }
+}
+
+/// The entry of a package that is installed as a tree; None where it isn't installed.
+fn tree_entry<S: Store>(
+    alloc: Global,
+    store: &mut S,
+    depots: &NormPaths,
+    name: &Name,
+    uuid: &Uuid,
+    tree: &TreeId,
+) -> Result<Option<NormPath>, EnvFault>
+    ensures path { IfSome (S.files store.old) (λ all. IfOk result (λ entry. entry ≡ spec.source_in name.now (installed_in all depots.now.items name.now uuid.now tree.now))) }
+    ensures refused { IfErr result (OnlyReadFault (S.read_faults store.old) (S.read_faults store.new)) }
+    ensures files { S.files store.new ≡ S.files store.old }
+    ensures later { S.read_faults store.old ≤ S.read_faults store.new }
+    ensures other { S.write_faults store.new ≡ S.write_faults store.old }
+{
+    match installed(alloc, store, depots, name, uuid, tree) {
+        Ok(Some(folder)) => Ok(source_inside(alloc, &folder, name)?),
+        Ok(None) => Ok(None),
+        Err(FolderFault::ReadFault(path)) => Err(EnvFault::ReadFault(path)),
+        Err(FolderFault::MissingFile(_)) => unreachable!(),
+        Err(FolderFault::Limit(_, _)) => unreachable!(),
+        Err(FolderFault::Memory) => Err(EnvFault::Memory),
     }
 }
 

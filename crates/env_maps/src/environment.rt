@@ -1,65 +1,68 @@
 //! The environment of a project.
-ghost use Rattle.std.specs.Prelude.{◌≡◌, ◌≤◌, ◌&&◌, [], Some, IfSome, IfOk, IfErr};
+ghost use Rattle.std.specs.Prelude.{◌≡◌, ◌≤◌, ◌&&◌, ◌==◌, Some, IfSome, IfOk, IfErr, map, option_map};
 ghost use Rattle.std.specs.Option.{option_copied};
 ghost use Rattle.std.specs.Str.{bytes_eq};
+ghost use Rattle.project_file.specs.Said.{said as said_project};
+ghost use Rattle.manifest_file.specs.Said.{said as said_manifest, said_stanza};
 ghost use Rattle.env_maps.specs.Maps as spec;
-ghost use Rattle.env_maps.specs.Project.{no_project};
-ghost use Rattle.env_maps.specs.Manifest.{stanzas_in as stanzas_meant, stanzas_of};
-ghost use Rattle.env_maps.specs.Answers.{Loads};
-ghost use Rattle.env_maps.specs.Views.{LoadsStanzas};
+ghost use Rattle.env_maps.specs.Files.{Loads};
 ghost use Rattle.env_maps.specs.Faults.{OnlyReadFault, NoReadFault, ReadFaultRose};
 
 use crate::entry::{source_beside, stanza_entry};
+use crate::escaping::{first_escaping, path_refused};
 use crate::fault::EnvFault;
-use crate::file::of_file;
+use crate::file::{manifest_at, project_at};
 use crate::id::{Context, Id};
-use crate::manifest::Entries;
-use crate::manifest_path::{manifest_path, refused};
-use crate::project::Project;
-use crate::stanza::Stanza;
-use pkg_world::{Duplicate, Name, NormPath, Place, Store};
+use crate::manifest_path::manifest_path;
+use manifest_file::{Manifest, Origin, Stanza, Stanzas};
+use pkg_world::{Duplicate, Name, NormPath, NormPaths, Place, Store};
+use project_file::Project;
 use std::alloc::{AllocError, Global};
 use std::marker::Model;
-use toml_view::halted;
 use uuid::Uuid;
 
 /// The environment of a project: what its file and its manifest make of names. A project file that isn't there
 /// gives an environment without entries. (Julia manual, Code Loading.)
-#[derive(Debug, Drop)]
+#[derive(Drop)]
 pub struct ProjectEnv {
     file: NormPath,
-    project: Project,
-    stanzas: Vec<Stanza>,
+    project: Option<Project>,
+    folder: NormPath,
+    stanzas: Stanzas,
+    depots: NormPaths,
 }
 
 impl Model for ProjectEnv {
+    ghost use Rattle.std.specs.Prelude.{map, option_map};
+    ghost use Rattle.project_file.specs.Said.{said};
+    ghost use Rattle.manifest_file.specs.Said.{said_stanza};
     ghost use Rattle.env_maps.specs.Maps.{Env};
 
     ghost Value = { Env };
 
-    ghost view = { λ a. record { file = a.file; project = a.project; stanzas = a.stanzas.items } };
+    ghost view = { λ a. record { file = a.file; project = option_map said a.project; folder = a.folder; stanzas = map said_stanza a.stanzas.items; depots = a.depots.items } };
 }
 
 impl ProjectEnv {
     /// The environment of the project file at that path.
     ///
-    /// Errors: BadFile, exactly where the project file or then the manifest is refused, with the first cause in key
-    /// order; ReadFault, where the store can't read; want of memory.
+    /// Errors: BadFile, exactly where the project file or then the manifest is refused, or then the path of a stanza
+    /// rises above the root; ReadFault, where the store can't read; want of memory.
     pub fn load<S: Store>(
         alloc: Global,
         store: &mut S,
-        _place: &Place,
+        place: &Place,
         file: &NormPath,
     ) -> Result<ProjectEnv, EnvFault>
-        ensures told { IfSome (S.files store.old) (λ all. Loads (spec.env_in all file.now) result) }
+        ensures told { IfSome (S.files store.old) (λ all. Loads (spec.env_in all place.now file.now) result) }
         ensures fault { IfErr result (ReadFaultRose (S.read_faults store.old) (S.read_faults store.new)) }
         ensures files { S.files store.new ≡ S.files store.old }
         ensures later { S.read_faults store.old ≤ S.read_faults store.new }
         ensures other { S.write_faults store.new ≡ S.write_faults store.old }
     {
-        match of_file(alloc, store, file) {
-            Ok(Some(project)) => with_manifest(alloc, store, file, project),
-            Ok(None) => empty(alloc, file),
+        match project_at(alloc, store, file) {
+            Ok(Some(project)) => with_manifest(alloc, store, place, file, project),
+            Ok(None) => Ok(empty(alloc, place, file)?),
             Err(fault) => Err(fault),
         }
     }
@@ -69,7 +72,7 @@ impl ProjectEnv {
     pub fn root(&self, alloc: Global, name: &Name) -> Result<Option<Id>, AllocError>
         ensures { IfOk result (λ id. id ≡ spec.root_of self.now name.now) }
     {
-        match self.project.own() {
+        match self.own() {
             Some((own, uuid)) => {
                 if own.as_str() == name.as_str() {
                     identity(alloc, own, uuid)
@@ -83,7 +86,8 @@ impl ProjectEnv {
 
     /// The path of an identity's entry file, which need not be there: `src/X.jl` beside the project file for the
     /// project's own package X; for a stanza with a path the file itself where that path is a file, else `src/X.jl`
-    /// inside. None exactly where the environment has no path for it.
+    /// inside; for a stanza with a tree `src/X.jl` inside the installed tree. None exactly where the environment has no
+    /// path for it.
     ///
     /// Errors: ReadFault, where the store can't tell what is there; want of memory.
     pub fn entry<S: Store>(
@@ -102,49 +106,87 @@ impl ProjectEnv {
         if self.is_own(id) {
             Ok(source_beside(alloc, &self.file, &id.name)?)
         } else {
-            stanza_entry(alloc, store, self.stanza(id))
+            stanza_entry(alloc, store, &self.depots, &self.folder, self.stanza(id))
         }
     }
 
-    /// Whether the identity's stanza has a form whose entry is not read yet: one without a path.
+    /// Whether the identity's stanza has a form whose entry is not read yet: one of the standard library.
     pub fn is_unbuilt(&self, id: &Id) -> bool
         ensures { result ≡ spec.is_unbuilt self.now id.now }
     {
-        !self.is_own(id) && lacks_path(self.stanza(id))
+        !self.is_own(id) && is_std(self.stanza(id))
+    }
+
+    /// The name and the identifier of the project's own package, where the file has both.
+    fn own(&self) -> Option<(&Name, Uuid)>
+        ensures { spec.OwnGives self.now result }
+    {
+        match &self.project {
+            Some(project) => own_of(project),
+            None => None,
+        }
     }
 
     /// Whether the identity is the project's own package.
     fn is_own(&self, id: &Id) -> bool
-        ensures { result ≡ spec.is_identity id.now (spec.own self.now.project) }
+        ensures { result ≡ spec.is_identity id.now (spec.own self.now) }
     {
-        match self.project.own() {
+        match self.own() {
             Some((name, uuid)) => name.as_str() == id.name.as_str() && is_uuid(&id.uuid, &uuid),
             None => false,
         }
     }
 
     fn dependency(&self, alloc: Global, name: &Name) -> Result<Option<Id>, AllocError>
-        ensures { IfOk result (λ id. id ≡ spec.dep_of name.now self.now.project.deps) }
+        ensures { IfOk result (λ id. id ≡ spec.dep_of name.now (spec.deps_in self.now.project)) }
     {
-        for (key, uuid) in self.project.deps() {
-            if key.as_str() == name.as_str() {
-                return identity(alloc, name, *uuid);
-            }
+        match &self.project {
+            Some(project) => dependency_among(alloc, project.deps.items(), name),
+            None => Ok(None),
         }
-        Ok(None)
     }
 
     /// The first stanza of an identity.
     fn stanza(&self, id: &Id) -> Option<&Stanza>
-        ensures { option_copied result ≡ spec.stanza_of id.now self.now.stanzas }
+        ensures { option_map said_stanza (option_copied result) ≡ spec.stanza_of id.now self.now.stanzas }
     {
-        for stanza in &self.stanzas {
-            if is_of(stanza, id) {
-                return Some(stanza);
-            }
-        }
-        None
+        stanza_among(self.stanzas.items(), id)
     }
+}
+
+fn own_of(project: &Project) -> Option<(&Name, Uuid)>
+    ensures { spec.OwnIs (spec.own_of project.now.name project.now.uuid) result }
+{
+    match (&project.name, &project.uuid) {
+        (Some(name), Some(uuid)) => Some((name, *uuid)),
+        _ => None,
+    }
+}
+
+fn dependency_among(
+    alloc: Global,
+    deps: &[(Name, Uuid)],
+    name: &Name,
+) -> Result<Option<Id>, AllocError>
+    ensures { IfOk result (λ id. id ≡ spec.dep_of name.now deps.now) }
+{
+    for (key, uuid) in deps {
+        if key.as_str() == name.as_str() {
+            return identity(alloc, name, *uuid);
+        }
+    }
+    Ok(None)
+}
+
+fn stanza_among<'a>(stanzas: &'a [Stanza], id: &Id) -> Option<&'a Stanza>
+    ensures { option_map said_stanza (option_copied result) ≡ spec.stanza_of id.now (map said_stanza stanzas.now) }
+{
+    for stanza in stanzas {
+        if is_of(stanza, id) {
+            return Some(stanza);
+        }
+    }
+    None
 }
 
 fn identity(alloc: Global, name: &Name, uuid: Uuid) -> Result<Option<Id>, AllocError>
@@ -173,24 +215,36 @@ fn is_uuid(given: &Option<Uuid>, uuid: &Uuid) -> bool
     }
 }
 
-fn lacks_path(stanza: Option<&Stanza>) -> bool
-    ensures { result ≡ spec.lacks_path (option_copied stanza.entry) }
+fn is_std(stanza: Option<&Stanza>) -> bool
+    ensures { result ≡ spec.is_std (option_map said_stanza (option_copied stanza.entry)) }
 {
     match stanza {
-        Some(stanza) => stanza.path.is_none(),
+        Some(stanza) => matches_std(&stanza.origin),
         None => false,
     }
 }
 
+fn matches_std(origin: &Origin) -> bool
+    ensures { result ≡ spec.is_std_origin origin.now }
+{
+    match origin {
+        Origin::Std => true,
+        Origin::Path(_) => false,
+        Origin::Tree(_) => false,
+        Origin::Repo { .. } => false,
+    }
+}
+
 /// The environment of a file that isn't there.
-fn empty(alloc: Global, file: &NormPath) -> Result<ProjectEnv, EnvFault>
-    ensures told { IfOk result (λ env. env ≡ record { file = file.now; project = no_project; stanzas = [] }) }
-    ensures memory { IfErr result (λ fault. fault ≡ EnvFault.Memory) }
+fn empty(alloc: Global, place: &Place, file: &NormPath) -> Result<ProjectEnv, AllocError>
+    ensures { IfOk result (λ env. env ≡ spec.no_env place.now file.now) }
 {
     Ok(ProjectEnv {
         file: file.copy(alloc)?,
-        project: Project::none(alloc),
-        stanzas: Vec::new(alloc),
+        project: None,
+        folder: file.folder(alloc)?,
+        stanzas: Stanzas::make(alloc),
+        depots: place.depots.copy(alloc)?,
     })
 }
 
@@ -198,69 +252,77 @@ fn empty(alloc: Global, file: &NormPath) -> Result<ProjectEnv, EnvFault>
 fn with_manifest<S: Store>(
     alloc: Global,
     store: &mut S,
+    place: &Place,
     file: &NormPath,
     project: Project,
 ) -> Result<ProjectEnv, EnvFault>
-    ensures told { IfSome (S.files store.old) (λ all. Loads (spec.env_with all file.now (Some project)) result) }
+    ensures told { IfSome (S.files store.old) (λ all. Loads (spec.env_with all place.now file.now (Some (said_project project))) result) }
     ensures fault { IfErr result (ReadFaultRose (S.read_faults store.old) (S.read_faults store.new)) }
     ensures files { S.files store.new ≡ S.files store.old }
     ensures later { S.read_faults store.old ≤ S.read_faults store.new }
     ensures other { S.write_faults store.new ≡ S.write_faults store.old }
 {
-    match manifest_path(alloc, store, file, &project) {
-        Ok(manifest) => with_stanzas(alloc, store, file, project, &manifest),
+    match manifest_path(alloc, store, place, file, &project) {
+        Ok(path) => with_manifest_at(alloc, store, place, file, project, &path),
         Err(fault) => Err(fault),
     }
 }
 
-fn with_stanzas<S: Store>(
+fn with_manifest_at<S: Store>(
     alloc: Global,
     store: &mut S,
+    place: &Place,
     file: &NormPath,
     project: Project,
-    manifest: &NormPath,
+    path: &NormPath,
 ) -> Result<ProjectEnv, EnvFault>
-    ensures told { IfSome (S.files store.old) (λ all. Loads (spec.with_stanzas file.now project (spec.at_file manifest.now (stanzas_meant all manifest.now))) result) }
+    ensures told { IfSome (S.files store.old) (λ all. Loads (spec.env_at all place.now file.now (said_project project) path.now) result) }
     ensures fault { IfErr result (ReadFaultRose (S.read_faults store.old) (S.read_faults store.new)) }
     ensures files { S.files store.new ≡ S.files store.old }
     ensures later { S.read_faults store.old ≤ S.read_faults store.new }
     ensures other { S.write_faults store.new ≡ S.write_faults store.old }
 {
-    match stanzas_in(alloc, store, manifest) {
-        Ok(stanzas) => Ok(ProjectEnv {
-            file: file.copy(alloc)?,
-            project,
-            stanzas,
-        }),
+    match manifest_at(alloc, store, path) {
+        Ok(manifest) => with_stanzas(alloc, place, file, project, path, manifest),
         Err(fault) => Err(fault),
     }
 }
 
-/// The stanzas of a manifest; none where no file is there.
-fn stanzas_in<S: Store>(
+/// The environment, unless the path of a stanza rises above the root.
+fn with_stanzas(
     alloc: Global,
-    store: &mut S,
-    manifest: &NormPath,
-) -> Result<Vec<Stanza>, EnvFault>
-    ensures told { IfSome (S.files store.old) (λ all. LoadsStanzas (spec.at_file manifest.now (stanzas_meant all manifest.now)) result) }
-    ensures fault { IfErr result (ReadFaultRose (S.read_faults store.old) (S.read_faults store.new)) }
-    ensures files { S.files store.new ≡ S.files store.old }
-    ensures later { S.read_faults store.old ≤ S.read_faults store.new }
-    ensures other { S.write_faults store.new ≡ S.write_faults store.old }
-{
-    match of_file::<Entries, S>(alloc, store, manifest) {
-        Ok(Some(entries)) => resolved(alloc, manifest, &entries),
-        Ok(None) => Ok(Vec::new(alloc)),
-        Err(fault) => Err(fault),
-    }
-}
-
-fn resolved(alloc: Global, manifest: &NormPath, entries: &Entries) -> Result<Vec<Stanza>, EnvFault>
-    ensures told { LoadsStanzas (spec.at_file manifest.now (stanzas_of manifest.now (Some entries.now))) result }
+    place: &Place,
+    file: &NormPath,
+    project: Project,
+    path: &NormPath,
+    manifest: Manifest,
+) -> Result<ProjectEnv, EnvFault>
+    ensures told { Loads (spec.env_of place.now file.now (said_project project) path.now (said_manifest manifest)) result }
     ensures fault { IfErr result NoReadFault }
 {
-    match entries.resolved(alloc, manifest) {
-        Ok(stanzas) => Ok(stanzas),
-        Err(stop) => Err(refused(alloc, manifest, halted(stop))),
+    let folder = path.folder(alloc)?;
+    match first_escaping(alloc, &folder, manifest.stanzas.items())? {
+        Some(name) => Err(path_refused(alloc, path, name)),
+        None => Ok(made(alloc, place, file, project, folder, manifest)?),
     }
+}
+
+fn made(
+    alloc: Global,
+    place: &Place,
+    file: &NormPath,
+    project: Project,
+    folder: NormPath,
+    manifest: Manifest,
+) -> Result<ProjectEnv, AllocError>
+    ensures { IfOk result (λ env. env ≡ record { file = file.now; project = Some (said_project project); folder = folder; stanzas = map said_stanza manifest.stanzas.items; depots = place.now.depots.items }) }
+{
+    let Manifest { stanzas, .. } = manifest;
+    Ok(ProjectEnv {
+        file: file.copy(alloc)?,
+        project: Some(project),
+        folder,
+        stanzas,
+        depots: place.depots.copy(alloc)?,
+    })
 }

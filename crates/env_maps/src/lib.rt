@@ -4,16 +4,18 @@
 mod active;
 mod entry;
 mod environment;
+mod environment_text;
+mod escaping;
 mod fault;
 mod file;
+mod folders;
 mod id;
-pub mod laws;
-mod manifest;
 mod manifest_path;
-mod project;
-mod stanza;
+mod there;
 
 pub use active::active_project;
 pub use environment::ProjectEnv;
 pub use fault::EnvFault;
+pub use file::{manifest_at, project_at};
 pub use id::{Context, Id};
+pub use manifest_path::manifest_path;

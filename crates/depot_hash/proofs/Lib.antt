@@ -1,0 +1,6 @@
+pub mod Divisions
+pub mod StepTable
+pub mod Keys
+pub mod Finding
+pub mod Walking
+pub mod Entering

@@ -1,0 +1,11 @@
+pub mod Checksum
+pub mod Registers
+pub mod Slugs
+pub mod Laws
+pub mod Blobs
+pub mod Trees
+pub mod Placed
+pub mod Faults
+pub mod Installed
+pub mod Folders
+pub mod Walks

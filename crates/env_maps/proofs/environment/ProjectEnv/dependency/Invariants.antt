@@ -1,6 +1,0 @@
-use Rattle.std.proofs.Common.{◌≡◌, drop}
-use Rattle.env_maps.specs.Maps.{dep_of}
-use Rattle.env_maps.proofs.environment.ProjectEnv.dependency.Given as goal
-
-abbrev pub invariant-loop-key : goal.invariant-loop-key
-invariant-loop-key l = dep_of l.name l.self.project.deps ≡ dep_of l.name (drop l.key-index l.self.project.deps)

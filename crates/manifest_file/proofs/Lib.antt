@@ -1,0 +1,4 @@
+pub mod Faults
+pub mod Orders
+pub mod Sorts
+pub mod Walks

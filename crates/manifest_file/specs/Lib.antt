@@ -1,0 +1,9 @@
+pub mod Format
+pub mod Values
+pub mod Entries
+pub mod Saying
+pub mod Said
+pub mod Chains
+pub mod Steps
+pub mod Sorting
+pub mod Answers

@@ -1,0 +1,64 @@
+//! Who bears a name.
+ghost use Rattle.std.specs.Prelude.{◌≡◌, List, ℕ, IfOk, OnOk, Some, cond, if◌then◌else◌};
+ghost use Rattle.std.specs.Str.{bytes_eq};
+ghost use Rattle.manifest_file.specs.Saying as spec;
+ghost use Rattle.manifest_file.specs.Sorting.{bearers_by};
+
+use crate::entry::Entry;
+use pkg_world::{Name, Values};
+use std::alloc::{AllocError, Global};
+use std::collections::BTreeMap;
+use uuid::Uuid;
+
+/// How many stanzas bear a name, with the identifier where it is one.
+#[derive(Clone, Copy, Debug, PartialEq, Eq)]
+pub(crate) enum Bearers {
+    Nobody,
+    One(Uuid),
+    Several,
+}
+
+/// Who bears each name.
+pub(crate) type Index = BTreeMap<String, Bearers>;
+
+/// Who bears each name of a manifest.
+pub(crate) fn index_of(alloc: Global, groups: &[(Name, Values<Entry>)]) -> Result<Index, AllocError>
+    ensures { IfOk result (λ index. (q : List ℕ) → bearers_by index q ≡ spec.bearers_in groups.now q) }
+{
+    let mut index = BTreeMap::new(alloc);
+    let mut left = groups.len();
+    while left > 0 {
+        left -= 1;
+        let (name, list) = &groups[left];
+        add(alloc, &mut index, name.as_str(), bearers_of(list.items()))?;
+    }
+    Ok(index)
+}
+
+fn add(alloc: Global, index: &mut Index, name: &str, bearers: Bearers) -> Result<(), AllocError>
+    ensures { OnOk result ((q : List ℕ) → bearers_by index.new q ≡ (if bytes_eq name.now q then bearers else bearers_by index.old q)) }
+{
+    let key = String::from_str(alloc, name)?;
+    index.insert(key, bearers)?;
+    Ok(())
+}
+
+fn bearers_of(stanzas: &[Entry]) -> Bearers
+    ensures { result ≡ spec.bearers_of stanzas.now }
+{
+    match stanzas {
+        [] => Bearers::Nobody,
+        [stanza] => Bearers::One(stanza.uuid),
+        _ => Bearers::Several,
+    }
+}
+
+/// Who bears a name.
+pub(crate) fn named(index: &Index, name: &str) -> Bearers
+    ensures { result ≡ bearers_by index.now name.now }
+{
+    match index.get(name) {
+        Some(found) => *found,
+        None => Bearers::Nobody,
+    }
+}

@@ -1,0 +1,167 @@
+//! What no clause says: that reading succeeds, and examples of its answers.
+use super::*;
+use pkg_world::{Duplicate, NameIds};
+use std::alloc::{AllocError, Global};
+use std::test::Fail;
+
+/// A manifest as Pkg writes it, with a stanza of every kind.
+const FULL: &str = "julia_version = \"1.11.2\"\nmanifest_format = \"2.0\"\nproject_hash = \"x\"\n\n\
+    [[deps.Dates]]\ndeps = [\"Printf\"]\nuuid = \"00000000-0000-4000-8000-000000000030\"\nversion = \"1.11.0\"\n\n\
+    [[deps.Lib]]\nweakdeps = [\"Dates\"]\npath = \"../lib\"\nuuid = \"00000000-0000-4000-8000-000000000002\"\nversion = \"0.1.0\"\n\n\
+    [deps.Lib.extensions]\nLibDatesExt = \"Dates\"\nLibMoreExt = [\"Dates\", \"Printf\"]\n\n\
+    [[deps.Old]]\ngit-tree-sha1 = \"0000000000000000000000000000000000000001\"\npinned = true\n\
+    uuid = \"00000000-0000-4000-8000-000000000003\"\nversion = \"2.0.0\"\n\n\
+    [deps.Old.deps]\nLib = \"00000000-0000-4000-8000-000000000002\"\n\n\
+    [[deps.Printf]]\nuuid = \"00000000-0000-4000-8000-000000000031\"\n\n\
+    [[deps.Work]]\ndeps = [\"Printf\", \"Lib\", \"Printf\"]\ngit-tree-sha1 = \"00000000000000000000000000000000000000FF\"\n\
+    repo-rev = \"main\"\nrepo-subdir = \"sub\"\nrepo-url = \"https://example.org/W.git\"\n\
+    uuid = \"00000000-0000-4000-8000-000000000004\"\nversion = \"0.3.0\"\n";
+
+/// Two stanzas of one name, whose dependencies are tables.
+const TWICE: &str = "manifest_format = \"2\"\n\
+    [[deps.A]]\nuuid = \"00000000-0000-4000-8000-000000000001\"\n[deps.A.deps]\nB = \"00000000-0000-4000-8000-000000000003\"\n\
+    [[deps.A]]\nuuid = \"00000000-0000-4000-8000-000000000002\"\n[deps.A.deps]\nA = \"00000000-0000-4000-8000-000000000001\"\n";
+
+fn kind(origin: &Origin) -> &'static str {
+    match origin {
+        Origin::Tree(_) => "tree",
+        Origin::Path(_) => "path",
+        Origin::Repo { .. } => "repo",
+        Origin::Std => "std",
+    }
+}
+
+/// The names, each with the last byte of its identifier.
+fn shown(alloc: Global, ids: &NameIds) -> Result<String, AllocError> {
+    let mut text = String::new(alloc);
+    for (name, id) in ids.items() {
+        let last = id.as_bytes()[15];
+        text.push_str(name.as_str())?;
+        write!(text, "{last} ")?;
+    }
+    Ok(text)
+}
+
+#[test]
+fn a_manifest_of_every_kind_of_stanza_is_read(rt: HostRuntime) -> Result<(), Fail> {
+    let manifest = Manifest::read(rt.alloc(), FULL.as_bytes())?;
+    assert!(rt; manifest.julia_version.is_some());
+    let stanzas = manifest.stanzas.items();
+    assert_eq!(rt; stanzas.len(), 5);
+    for (place, name, origin, pinned, deps, weak) in [
+        (0, "Dates", "std", false, "Printf49 ", ""),
+        (1, "Lib", "path", false, "", "Dates48 "),
+        (2, "Old", "tree", true, "Lib2 ", ""),
+        (3, "Printf", "std", false, "", ""),
+        (4, "Work", "repo", false, "Lib2 Printf49 ", ""),
+    ] {
+        let stanza = &stanzas[place];
+        assert_eq!(rt; stanza.name.as_str(), name);
+        assert_eq!(rt; kind(&stanza.origin), origin, "{name}");
+        assert_eq!(rt; stanza.pinned, pinned, "{name}");
+        assert_eq!(rt; shown(rt.alloc(), &stanza.deps)?.as_str(), deps, "{name}");
+        assert_eq!(rt; shown(rt.alloc(), &stanza.weakdeps)?.as_str(), weak, "{name}");
+    }
+    Ok(())
+}
+
+#[test]
+fn extensions_have_their_triggers_and_a_repository_its_parts(rt: HostRuntime) -> Result<(), Fail> {
+    let manifest = Manifest::read(rt.alloc(), FULL.as_bytes())?;
+    let stanzas = manifest.stanzas.items();
+    let (first, triggers) = &stanzas[1].extensions.items()[1];
+    assert_eq!(rt; first.as_str(), "LibMoreExt");
+    assert_eq!(rt; triggers.items().len(), 2);
+    assert!(rt; stanzas[3].version.is_none());
+    match stanzas[4].origin.copy(rt.alloc())? {
+        Origin::Repo {
+            url,
+            rev,
+            subdir,
+            tree,
+        } => {
+            assert_eq!(rt; url.as_str(), "https://example.org/W.git");
+            assert!(rt; rev.is_some() && subdir.is_some());
+            assert_eq!(rt; tree.bytes()[19], 255);
+        }
+        _ => assert!(rt; false),
+    }
+    Ok(())
+}
+
+#[test]
+fn stanzas_of_one_name_stand_as_in_the_file(rt: HostRuntime) -> Result<(), Fail> {
+    let manifest = Manifest::read(rt.alloc(), TWICE.as_bytes())?;
+    let stanzas = manifest.stanzas.items();
+    assert_eq!(rt; stanzas.len(), 2);
+    assert_eq!(rt; stanzas[0].uuid.as_bytes()[15], 1);
+    assert_eq!(rt; shown(rt.alloc(), &stanzas[0].deps)?.as_str(), "B3 ");
+    assert_eq!(rt; shown(rt.alloc(), &stanzas[1].deps)?.as_str(), "A1 ");
+    Ok(())
+}
+
+#[test]
+fn a_file_without_keys_is_an_empty_manifest(rt: HostRuntime) -> Result<(), Fail> {
+    for text in ["", "# nothing\n", "manifest_format = \"2.11\"\n"] {
+        let manifest = Manifest::read(rt.alloc(), text.as_bytes())?;
+        assert_eq!(rt; manifest.stanzas.items().len(), 0);
+    }
+    Ok(())
+}
+
+/// The refusal as one text.
+fn refusal(alloc: Global, text: &str) -> Result<String, AllocError> {
+    match Manifest::read(alloc, text.as_bytes()) {
+        Ok(_) => String::from_str(alloc, "read"),
+        Err(fault) => told(alloc, &fault),
+    }
+}
+
+fn told(alloc: Global, fault: &ManifestFault) -> Result<String, AllocError> {
+    match fault {
+        ManifestFault::BadToml => String::from_str(alloc, "BadToml"),
+        ManifestFault::Deep => String::from_str(alloc, "Deep"),
+        ManifestFault::BadShape(path) => format!(in alloc; "BadShape {path}"),
+        ManifestFault::BadVersion(path, place) => format!(in alloc; "BadVersion {path} {place}"),
+        ManifestFault::SameUuid(id) => {
+            let last = id.as_bytes()[15];
+            format!(in alloc; "SameUuid {last}")
+        }
+        ManifestFault::Dangling(from, name) => format!(in alloc; "Dangling {from} {name}"),
+        ManifestFault::Unclear(from, name) => format!(in alloc; "Unclear {from} {name}"),
+        ManifestFault::Memory => String::from_str(alloc, "Memory"),
+    }
+}
+
+const F: &str = "manifest_format = \"2.0\"\n";
+
+const U1: &str = "uuid = \"00000000-0000-4000-8000-000000000001\"\n";
+
+#[test]
+fn each_refusal_names_its_place(rt: HostRuntime) -> Result<(), Fail> {
+    for (parts, want) in [
+        (["[[deps.A", "", "", "", ""], "BadToml"),
+        (["a = [[[[[[[[[[[[[[[[[[[[[[[[[[[[[[[[[[[[[[[[[[[[[[[[[[[[[[[[[[[[[[[[", "]]]]]]]]]]]]]]]]]]]]]]]]]]]]]]]]]]]]]]]]]]]]]]]]]]]]]]]]]]]]]]]]", "", "", ""], "Deep"),
+        (["x = 1", "", "", "", ""], "BadShape manifest_format"),
+        (["manifest_format = \"2.\"", "", "", "", ""], "BadShape manifest_format"),
+        (["manifest_format = 2.0", "", "", "", ""], "BadShape manifest_format"),
+        (["manifest_format = 1\n", "deps = 1", "", "", ""], "BadShape deps"),
+        ([F, "julia_version = \"1.x\"", "", "", ""], "BadVersion julia_version 2"),
+        ([F, "[[deps.A]]\n", "version = \"1\"", "", ""], "BadShape deps.A.uuid"),
+        ([F, "[[deps.A]]\n", U1, "version = \"1.2.\"", ""], "BadVersion deps.A.version 4"),
+        ([F, "[[deps.A]]\n", U1, "repo-url = \"u\"", ""], "BadShape deps.A.git-tree-sha1"),
+        ([F, "[[deps.A]]\n", U1, "git-tree-sha1 = \"12\"", ""], "BadShape deps.A.git-tree-sha1"),
+        ([F, "[[deps.A]]\n", U1, "path = \"p\"\n", "repo-rev = 1"], "BadShape deps.A.repo-rev"),
+        ([F, "[[deps.A]]\n", U1, "pinned = \"yes\"", ""], "BadShape deps.A.pinned"),
+        ([F, "[[deps.A]]\n", U1, "[deps.A.extensions]\n", "E = 1"], "BadShape deps.A.extensions.E"),
+        ([F, "[[deps.A]]\n", U1, "[[deps.B]]\n", U1], "SameUuid 1"),
+        ([F, "[[deps.A]]\ndeps = [\"Q\"]\n", U1, "[[deps.B]]\n", U1], "SameUuid 1"),
+        ([F, "[[deps.A]]\n", U1, "deps = [\"Q\"]", ""], "Dangling A Q"),
+        ([F, "[[deps.A]]\ndeps = [\"Q\"]\nuuid = \"00000000-0000-4000-8000-000000000003\"\n", "[[deps.Q]]\n", U1, "[[deps.Q]]\nuuid = \"00000000-0000-4000-8000-000000000002\"\n"], "Unclear A Q"),
+    ] {
+        let [a, b, c, d, e] = parts;
+        let text = format!(in rt.alloc(); "{a}{b}{c}{d}{e}")?;
+        assert_eq!(rt; refusal(rt.alloc(), text.as_str())?.as_str(), want);
+    }
+    Ok(())
+}
