@@ -4,8 +4,6 @@ use Rattle.pkg_world.specs.declared.cause.Cause.{Cause}
 use Rattle.pkg_world.specs.declared.cause.Cause.TheVariants as causes
 use Rattle.toml_view.specs.declared.refusal.Stop.{Stop}
 use Rattle.toml_view.specs.declared.refusal.Stop.TheVariants as stops
-use Rattle.toml_view.specs.declared.halt.Halt.{Halt}
-use Rattle.toml_view.specs.declared.halt.Halt.TheVariants as halts
 use Rattle.toml_view.specs.declared.document.ViewFault.{ViewFault}
 use Rattle.toml_view.specs.declared.document.ViewFault.TheVariants as views
 use Rattle.toml_view.specs.Causes.{cause_of}
@@ -40,12 +38,3 @@ IsUnviewed views.Memory fault = fault ≡ Memory
 abbrev pub IsFaultOf : Stop → ProjectFault → Type 0
 IsFaultOf (stops.Refused refusal) fault = cause_named fault ≡ Some (cause_of refusal)
 IsFaultOf stops.Memory fault = fault ≡ Memory
-
--- the halt of a file's reading that has this fault
-abbrev pub HaltsFor : ProjectFault → Halt → Type 0
-HaltsFor BadToml halt = halt ≡ halts.Refused causes.BadToml
-HaltsFor Deep halt = halt ≡ halts.Refused causes.Deep
-HaltsFor (BadShape path) halt = halt ≡ halts.Refused (causes.BadShape path)
-HaltsFor (BadVersion path place) halt = halt ≡ halts.Refused (causes.BadVersion path place)
-HaltsFor (BadSpec path place) halt = halt ≡ halts.Refused (causes.BadSpec path place)
-HaltsFor Memory halt = halt ≡ halts.Memory

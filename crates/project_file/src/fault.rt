@@ -1,12 +1,12 @@
 //! Why a project file is refused.
 ghost use Rattle.std.specs.Prelude.{◌≡◌};
 ghost use Rattle.toml_view.specs.Answers.{HasPath};
-ghost use Rattle.project_file.specs.Answers.{IsUnviewed, IsFaultOf, HaltsFor};
+ghost use Rattle.project_file.specs.Answers.{IsUnviewed, IsFaultOf};
 
-use pkg_world::{Cause, Text};
+use pkg_world::Text;
 use std::alloc::AllocError;
 use thiserror::Error;
-use toml_view::{Flaw, Halt, Refusal, Stop, ViewFault};
+use toml_view::{Flaw, Refusal, Stop, ViewFault};
 
 /// Why bytes have no project.
 #[derive(Debug, Drop, Error)]
@@ -38,22 +38,6 @@ impl From<AllocError> for ProjectFault {
 
     fn from(_none: AllocError) -> ProjectFault {
         ProjectFault::Memory
-    }
-}
-
-impl ProjectFault {
-    /// The halt of a file's reading that has this fault. Takes no memory.
-    pub fn into_halt(self) -> Halt
-        ensures { HaltsFor self result }
-    {
-        match self {
-            ProjectFault::BadToml => Halt::Refused(Cause::BadToml),
-            ProjectFault::Deep => Halt::Refused(Cause::Deep),
-            ProjectFault::BadShape(path) => Halt::Refused(Cause::BadShape(path)),
-            ProjectFault::BadVersion(path, place) => Halt::Refused(Cause::BadVersion(path, place)),
-            ProjectFault::BadSpec(path, place) => Halt::Refused(Cause::BadSpec(path, place)),
-            ProjectFault::Memory => Halt::Memory,
-        }
     }
 }
 

@@ -8,6 +8,8 @@ mod reading;
 mod source;
 mod spec_text;
 mod tables;
+#[cfg(test)]
+mod tests;
 mod triggers;
 mod writes;
 
