@@ -1,2 +1,4 @@
 pub mod Answers
 pub mod Registries
+pub mod Identifiers
+pub mod Registry

@@ -6,6 +6,8 @@ mod fault;
 mod file;
 mod found;
 mod package_list;
+mod registry;
+mod seen;
 
 pub use depots::registries;
 pub use fault::RegFault;
