@@ -1,5 +1,5 @@
 -- Going over a table of packages: what was read so far, and the rest.
-use Rattle.std.proofs.Common.{◌≡◌, ℕ, Bool, ◌||◌, List, [], ◌∷◌, ◌++◌, Option, Some, None, IfSome, subst, Result, Ok, Err, String, Global, string_bytes, refl, sym, ap, ◌∙◌, append_assoc}
+use Rattle.std.proofs.Common.{◌≡◌, ℕ, Bool, List, [], ◌∷◌, ◌++◌, Option, Some, None, IfSome, subst, Result, Ok, Err, String, Global, string_bytes, refl, sym, ap, ◌∙◌, append_assoc}
 use Rattle.toml.specs.View.{view, members_view}
 use Rattle.toml.specs.declared.value.Value.{Value}
 use Rattle.toml_view.specs.declared.refusal.Refusal.{Refusal}
@@ -78,9 +78,9 @@ pub refused-next : (stop : Stop) (folder : Path) (earlier : List (List ℕ)) (se
 refused-next stop folder earlier seen done entries rest e whole iter same refused all =
     let tests : is_among earlier ≡ seen = λ i other. sym (same other) i in
     let here = refused-as stop _ (at (string_bytes e.0) (package_of folder (is_among earlier) (string_bytes e.0) (view e.1)))
-      (ap (λ t. at (string_bytes e.0) (package_of folder t (string_bytes e.0) (view e.1))) tests) refused in
+    (ap (λ t. at (string_bytes e.0) (package_of folder t (string_bytes e.0) (view e.1))) tests) refused in
     refused-as stop _ whole (all ∙ ap (λ t. onto done (packages_of_members folder earlier (members_view t))) iter)
-      (refused-on stop done _ (refused-chained stop _ _ here))
+    (refused-on stop done _ (refused-chained stop _ _ here))
 
 -- the registry of a folder's file
 pub registry-loads : (files : Option Files) (folder file : Path) (known : Members) (answer : Result Registry RegFault) → file ≡ registry_file folder
@@ -91,6 +91,6 @@ registry-loads (Some all) folder file known answer here there loads =
     let P : Read Registered → Type 0 = λ reading. LoadsRegistry reading answer in
     let table : needed_table all (registry_file folder) ≡ Ok known = ap (needed_table all) (sym here) ∙ there in
     let same : at_file file (caused (registry_of folder known)) ≡ registry_in all folder =
-      ap (λ f. at_file f (caused (registry_of folder known))) here
-      ∙ ap (then_read (λ m. at_file (registry_file folder) (caused (registry_of folder m)))) (sym table) in
+    ap (λ f. at_file f (caused (registry_of folder known))) here
+    ∙ ap (then_read (λ m. at_file (registry_file folder) (caused (registry_of folder m)))) (sym table) in
     subst P same loads

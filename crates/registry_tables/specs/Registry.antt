@@ -1,6 +1,6 @@
 -- What the file of a registry says (Pkg, Registry.toml): the registry's name and identifier, and its packages by their
 -- identifiers. Other keys are ignored; the first refusal in key order counts.
-use Rattle.std.specs.Prelude.{◌≡◌, ℕ, Bool, if◌then◌else◌, List, [], ◌∷◌, codes, Option, Some, None, option_map, Result, Ok, Err, MatchResult}
+use Rattle.std.specs.Prelude.{◌≡◌, ℕ, Bool, if◌then◌else◌, List, [], ◌∷◌, codes, Some, None, option_map, Result, Ok, MatchResult}
 use Rattle.std.specs.List.{list_any}
 use Rattle.std.specs.Str.{bytes_eq}
 use Rattle.toml.specs.Data.{Data, Members, no_members, member, as_table}

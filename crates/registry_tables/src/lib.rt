@@ -7,6 +7,9 @@ mod file;
 mod found;
 mod package_list;
 mod registry;
+pub mod registry_laws;
+#[cfg(test)]
+mod registry_tests;
 mod seen;
 
 pub use depots::registries;

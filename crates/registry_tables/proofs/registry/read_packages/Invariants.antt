@@ -10,4 +10,4 @@ invariant-members l =
     goal.iterator-members.can_next l.key-iterator ×
     goal.iterator-members.is_finite l.key-iterator ×
     ((earlier : List (List ℕ)) × ((other : List ℕ) → has l.seen other ≡ is_among earlier other)
-      × (packages_of_members l.path.folder [] (members_view l.table.entries) ≡ onto l.list.items (packages_of_members l.path.folder earlier (members_view l.key-iterator))))
+    × (packages_of_members l.path.folder [] (members_view l.table.entries) ≡ onto l.list.items (packages_of_members l.path.folder earlier (members_view l.key-iterator))))

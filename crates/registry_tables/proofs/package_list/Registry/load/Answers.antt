@@ -1,4 +1,3 @@
-use Rattle.std.proofs.Common.{sym, ◌∙◌}
 use Rattle.toml.specs.View.{table_view}
 use Rattle.registry_tables.proofs.Packages.{registry-loads}
 use Rattle.registry_tables.proofs.package_list.Registry.load.Goals as goal
