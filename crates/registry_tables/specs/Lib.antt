@@ -1,2 +1,5 @@
 pub mod Answers
 pub mod Registries
+pub mod Identifiers
+pub mod Registry
+pub mod RegistryKeys

@@ -6,6 +6,11 @@ mod fault;
 mod file;
 mod found;
 mod package_list;
+mod registry;
+pub mod registry_laws;
+#[cfg(test)]
+mod registry_tests;
+mod seen;
 
 pub use depots::registries;
 pub use fault::RegFault;
