@@ -1,0 +1,5 @@
+//! Stub.
+#[derive(Clone, Copy, Debug, Drop)]
+pub struct TreeId {
+    pub bytes: [u8; 20],
+}
