@@ -104,3 +104,11 @@ pub specifier_unended : (text : List ℕ) (parts : List Part) (stage : Stage) �
     → None ≡ part_end stage → IsFirstBadOf IsSpecifier text (length text)
 specifier_unended text parts stage stands end =
     unended_first_bad specifier_accepts text (progress parts stage) stands (no_end (specifier_end (progress parts stage)) (ap (λ (o : Option Part). o >>= λ last. Some (parts ++ last ∷ [])) (sym end)))
+
+-- ---- at an end of the machine
+
+pub part_ended : (parts new : List Part) (stage : Stage) (part : Part) → Some part ≡ part_end stage → new ≡ parts ++ part ∷ [] → specifier_end (progress parts stage) ≡ Some new
+part_ended parts new stage part end grown = ap (λ (o : Option Part). o >>= λ last. Some (parts ++ last ∷ [])) (sym end) ∙ ap (λ (ps : List Part). Some ps) (sym grown)
+
+pub part_unended : (parts : List Part) (stage : Stage) → None ≡ part_end stage → specifier_end (progress parts stage) ≡ None
+part_unended parts stage end = ap (λ (o : Option Part). o >>= λ last. Some (parts ++ last ∷ [])) (sym end)

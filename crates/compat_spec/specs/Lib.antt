@@ -12,3 +12,4 @@ pub mod RangeMeaning
 pub mod Listing
 pub mod Admitted
 pub mod Table
+pub mod Meant

@@ -1,8 +1,9 @@
 //! The ranges of a registry, and reading one byte by byte.
 
-ghost use Rattle.std.specs.Prelude.{◌≡◌, IfOk, IfErr, Some};
+ghost use Rattle.std.specs.Prelude.{◌≡◌, IfOk, IfErr, MatchResult, Some, Ok};
 ghost use Rattle.jl_versions.specs.Triple.{triple_of};
 ghost use Rattle.compat_spec.specs.Refusals.{Refuses};
+ghost use Rattle.compat_spec.specs.Meant.{range_meant, RefusesAt};
 ghost use Rattle.compat_spec.specs.Ranges.{range_of, IsRange, bounds};
 
 use crate::fault::SpecFault;
@@ -206,6 +207,7 @@ impl Model for Range {
 fn bounds_of(text: &str) -> Result<(Bound, Bound), SpecFault>
     ensures ok { IfOk result (λ found. range_of text.now ≡ Some (bounds found.0 found.1)) }
     ensures bad { IfErr result (Refuses IsRange text.now) }
+    ensures meant { MatchResult result (λ found. range_meant text.now ≡ Ok (bounds found.0 found.1)) (RefusesAt (range_meant text.now)) }
 {
     let mut stage = Stage {
         side: Side::Lower,
@@ -234,6 +236,8 @@ impl Range {
         ensures kept { IfOk result (λ range. range.text ≡ text.now) }
         ensures ok { IfOk result (λ range. range_of text.now ≡ Some range.bounds) }
         ensures bad { IfErr result (Refuses IsRange text.now) }
+        // The same as a function of the text.
+        ensures meant { MatchResult result (λ range. range_meant text.now ≡ Ok range.bounds) (RefusesAt (range_meant text.now)) }
     {
         let (lower, upper) = bounds_of(text)?;
         let text = String::from_str(alloc, text)?;

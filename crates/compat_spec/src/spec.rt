@@ -1,11 +1,12 @@
 //! Whole specifiers.
 
-ghost use Rattle.std.specs.Prelude.{◌≡◌, IfOk, IfErr, Some};
+ghost use Rattle.std.specs.Prelude.{◌≡◌, IfOk, IfErr, MatchResult, Some, Ok};
 ghost use Rattle.jl_versions.specs.Triple.{triple_of};
 ghost use Rattle.compat_spec.specs.Meaning.{specifier_holds};
 ghost use Rattle.compat_spec.specs.SpecMachine.{Stands};
 ghost use Rattle.compat_spec.specs.Specifiers.{specifier_of, IsSpecifier};
 ghost use Rattle.compat_spec.specs.Refusals.{Refuses};
+ghost use Rattle.compat_spec.specs.Meant.{specifier_meant, RefusesAt};
 
 use crate::fault::SpecFault;
 use crate::part::{Part, Stage};
@@ -52,6 +53,8 @@ impl Spec {
     pub fn read(alloc: Global, text: &str) -> Result<Spec, SpecFault>
         ensures ok { IfOk result (λ spec. specifier_of text.now ≡ Some spec) }
         ensures bad { IfErr result (Refuses IsSpecifier text.now) }
+        // The same as a function of the text.
+        ensures meant { MatchResult result (λ spec. specifier_meant text.now ≡ Ok spec) (RefusesAt (specifier_meant text.now)) }
     {
         let mut parts = Vec::new(alloc);
         let mut stage = Stage::Before;

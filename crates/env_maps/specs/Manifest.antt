@@ -9,7 +9,8 @@ use Rattle.toml_view.specs.declared.refusal.Flaw.TheVariants.{Shape}
 use Rattle.pkg_world.specs.declared.cause.Cause.{Cause}
 use Rattle.pkg_world.specs.Path.{Path, joined, folder_of, path_text}
 use Rattle.pkg_world.specs.Tree.{Files, Content, file_bytes, holds, is_file}
-use Rattle.env_maps.specs.Project.{Project, caused, then_read, of_bytes}
+use Rattle.toml_view.specs.Causes.{caused, then_read}
+use Rattle.env_maps.specs.Project.{Project, of_bytes}
 use Rattle.env_maps.specs.declared.stanza.Stanza.{Stanza}
 use Rattle.env_maps.specs.declared.stanza.Entry.{Entry}
 

@@ -6,7 +6,8 @@ use Rattle.pkg_world.specs.Tree.{Files, holds, is_file}
 use Rattle.pkg_world.specs.declared.cause.Cause.{Cause}
 use Rattle.env_maps.specs.declared.id.Id.{Id}
 use Rattle.env_maps.specs.declared.stanza.Stanza.{Stanza}
-use Rattle.env_maps.specs.Project.{Project, no_project, caused, project_in}
+use Rattle.toml_view.specs.Causes.{caused}
+use Rattle.env_maps.specs.Project.{Project, no_project, project_in}
 use Rattle.env_maps.specs.Manifest.{manifest_path, stanzas_in}
 
 -- a project, where its file is or would be, and the stanzas of its manifest

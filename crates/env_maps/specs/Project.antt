@@ -1,12 +1,11 @@
 -- What a project file says of names (Pkg, Project.toml). Each key may be absent; the first refusal in key order counts.
 use Rattle.std.specs.Prelude.{ℕ, List, [], codes, Option, Some, None, Result, Ok, Err}
-use Rattle.std.specs.Option.{unwrap_or}
 use Rattle.toml.specs.Data.{Members}
-use Rattle.toml_view.specs.Document.{viewed, ViewRefusal, bad_toml, deep}
+use Rattle.toml_view.specs.Document.{viewed}
+use Rattle.toml_view.specs.Causes.{of_view}
 use Rattle.toml_view.specs.Reading.{text_of, uuid_of, chained, mapped, opt, table_at}
 use Rattle.toml_view.specs.declared.refusal.Refusal.{Refusal}
 use Rattle.pkg_world.specs.declared.cause.Cause.{Cause}
-use Rattle.pkg_world.specs.declared.cause.Cause.TheVariants.{BadToml, Deep, BadShape}
 use Rattle.pkg_world.specs.Tree.{Content, file_bytes}
 
 pub record Project : Type 0 where
@@ -14,18 +13,6 @@ pub record Project : Type 0 where
   pub manifest : Option (List ℕ)
   pub name : Option (List ℕ)
   pub uuid : Option (List ℕ)
-
--- the cause of a refused key
-abbrev pub cause_of : Refusal → Cause
-cause_of refusal = BadShape (unwrap_or refusal.path [])
-
-abbrev pub caused : {T : Type 0} → Result T Refusal → Result T Cause
-caused (Ok value) = Ok value
-caused (Err refusal) = Err (cause_of refusal)
-
-abbrev pub then_read : {S T : Type 0} → Result S Cause → (S → Result T Cause) → Result T Cause
-then_read (Ok value) next = next value
-then_read (Err cause) next = Err cause
 
 -- the project of a table, in the order of its keys
 abbrev pub project_of : Members → Result Project Refusal
@@ -42,12 +29,6 @@ project_of members =
 -- a file that isn't there is a project without entries
 abbrev pub no_project : Project
 no_project = record { deps = []; manifest = None; name = None; uuid = None }
-
--- what a table's reading makes of a file's bytes
-abbrev pub of_view : {T : Type 0} → (Members → Result T Refusal) → Result Members ViewRefusal → Result T Cause
-of_view read (Ok members) = caused (read members)
-of_view read (Err bad_toml) = Err BadToml
-of_view read (Err deep) = Err Deep
 
 abbrev pub some_of : {T : Type 0} → Result T Cause → Result (Option T) Cause
 some_of (Ok value) = Ok (Some value)

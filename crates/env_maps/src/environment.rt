@@ -11,7 +11,7 @@ ghost use Rattle.env_maps.specs.Faults.{OnlyReadFault, NoReadFault, ReadFaultRos
 
 use crate::entry::{source_beside, stanza_entry};
 use crate::fault::EnvFault;
-use crate::file::{halted, of_file};
+use crate::file::of_file;
 use crate::id::{Context, Id};
 use crate::manifest::Entries;
 use crate::manifest_path::{manifest_path, refused};
@@ -20,6 +20,7 @@ use crate::stanza::Stanza;
 use pkg_world::{Duplicate, Name, NormPath, Place, Store};
 use std::alloc::{AllocError, Global};
 use std::marker::Model;
+use toml_view::halted;
 use uuid::Uuid;
 
 /// The environment of a project: what its file and its manifest make of names. A project file that isn't there

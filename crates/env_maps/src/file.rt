@@ -3,17 +3,17 @@ ghost use Rattle.std.specs.Prelude.{◌≡◌, ◌≤◌, Some, IfSome, IfOk, If
 ghost use Rattle.toml.specs.View.{table_view};
 ghost use Rattle.toml_view.specs.Document.{viewed};
 ghost use Rattle.toml_view.specs.Answers.{HasPath};
+ghost use Rattle.toml_view.specs.Causes.{of_view, caused, Reads};
 ghost use Rattle.pkg_world.specs.Tree.{holds, file_bytes};
-ghost use Rattle.env_maps.specs.Project.{of_view, caused, of_bytes as bytes_mean};
+ghost use Rattle.env_maps.specs.Project.{of_bytes as bytes_mean};
 ghost use Rattle.env_maps.specs.Maps.{at_file};
-ghost use Rattle.env_maps.specs.Answers.{Gives, Reads, Loads, HaltsAs, HaltsView};
+ghost use Rattle.env_maps.specs.Answers.{Gives, Loads};
 ghost use Rattle.env_maps.specs.Faults.{OnlyReadFault, NoReadFault, ReadFaultRose};
 
 use crate::fault::EnvFault;
-use crate::halt::Halt;
-use pkg_world::{Bytes, Cause, Duplicate, NormPath, ReadAnswer, Store};
+use pkg_world::{Bytes, Duplicate, NormPath, ReadAnswer, Store};
 use std::alloc::Global;
-use toml_view::{Refusal, Stop, Table, ViewFault, view};
+use toml_view::{Halt, Stop, Table, halted, unviewed, view};
 
 /// What a file's table means.
 pub(crate) trait FromTable {
@@ -78,33 +78,6 @@ fn of_table<T: FromTable + Drop>(alloc: Global, table: &Table) -> Result<T, Halt
     match T::from_table(alloc, table) {
         Ok(value) => Ok(value),
         Err(stop) => Err(halted(stop)),
-    }
-}
-
-fn unviewed(fault: ViewFault) -> Halt
-    ensures { HaltsView fault result }
-{
-    match fault {
-        ViewFault::BadToml => Halt::Refused(Cause::BadToml),
-        ViewFault::Deep => Halt::Refused(Cause::Deep),
-        ViewFault::Memory => Halt::Memory,
-    }
-}
-
-/// The stop of a table's reading, with its cause.
-pub(crate) fn halted(stop: Stop) -> Halt
-    requires { HasPath stop }
-    ensures { HaltsAs stop result }
-{
-    match stop {
-        Stop::Refused(
-            Refusal {
-                path: Some(path),
-                ..
-            },
-        ) => Halt::Refused(Cause::BadShape(path)),
-        Stop::Refused(Refusal { path: None, .. }) => unreachable!(),
-        Stop::Memory => Halt::Memory,
     }
 }
 

@@ -6,7 +6,6 @@ mod entry;
 mod environment;
 mod fault;
 mod file;
-mod halt;
 mod id;
 pub mod laws;
 mod manifest;

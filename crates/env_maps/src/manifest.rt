@@ -10,11 +10,11 @@ ghost use Rattle.env_maps.specs.Stanzas.{PushesStanzas, ResolvesTo};
 
 use crate::file::FromTable;
 use crate::stanza::{Entry, Stanza};
-use pkg_world::{Duplicate, Name, NormPath, PathFault, Text};
+use pkg_world::{Duplicate, Name, NormPath, PathFault, Text, Values};
 use std::alloc::{AllocError, Global};
 use std::marker::Model;
 use toml_view::{
-    Flaw, ListOf, NameReader, NamedValues, Reader, Refusal, Stop, Table, UuidReader, Value, Values,
+    Flaw, ListOf, NameReader, NamedValues, Reader, Refusal, Stop, Table, UuidReader, Value,
     need, opt, other_shape, table_at,
 };
 

@@ -2,17 +2,17 @@
 ghost use Rattle.std.specs.Prelude.{◌≡◌, ◌≤◌, Some, codes, IfSome, IfOk, IfErr};
 ghost use Rattle.pkg_world.specs.Path.{joined};
 ghost use Rattle.env_maps.specs.Maps.{at_file};
-ghost use Rattle.env_maps.specs.Project.{caused};
+ghost use Rattle.toml_view.specs.Causes.{caused};
 ghost use Rattle.env_maps.specs.Manifest.{manifest_beside as manifest_near, manifest_path as path_meant, apart_or_refused};
 ghost use Rattle.env_maps.specs.Answers.{Loads};
 ghost use Rattle.env_maps.specs.Views.{RefusesFile, RefusesManifest};
 ghost use Rattle.env_maps.specs.Faults.{OnlyReadFault, NoReadFault, ReadFaultRose};
 
 use crate::fault::EnvFault;
-use crate::halt::Halt;
 use crate::project::Project;
 use pkg_world::{Cause, Duplicate, KindAnswer, Name, NormPath, PathFault, Store, Text};
 use std::alloc::{AllocError, Global};
+use toml_view::Halt;
 
 /// The path of a project's manifest, which need not be there: the one that the project names from its folder, else the
 /// first that is there of `JuliaManifest.toml` and `Manifest.toml` beside the project file, else the latter.

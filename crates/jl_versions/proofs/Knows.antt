@@ -6,11 +6,12 @@ use Rattle.std.specs.List.{list_all}
 use Rattle.std.proofs.lemmas.Bool.{cond-false, and_right}
 use Rattle.std.proofs.lemmas.List.Folds.{list_all-append}
 use Rattle.std.proofs.lemmas.Option.{none-some, same_Some}
-use Rattle.jl_versions.specs.Machine.{run, Accepts, IsFirstBadOf, stopped_first_bad, unended_first_bad}
+use Rattle.jl_versions.specs.Machine.{run, Accepts, IsFirstBadOf, stopped_first_bad, unended_first_bad, ended_meant, unended_meant, stopped_meant}
 use Rattle.jl_versions.specs.Words.{is_digit}
 use Rattle.jl_versions.specs.Pieces.{ident_of}
 use Rattle.jl_versions.specs.Stages.{step, finish, labelled}
 use Rattle.jl_versions.specs.Stops.{Tells}
+use Rattle.jl_versions.specs.Meant.{version_meant, RefusesAt}
 use Rattle.jl_versions.specs.Grammar.{Reads, IsVersionText}
 use Rattle.jl_versions.specs.Refusals.{Refuses}
 use Rattle.jl_versions.specs.declared.fault.VersionFault.{VersionFault}
@@ -85,3 +86,16 @@ told_only text (Err Memory) told v means = refl
 told_only text (Err (BadVersion place)) told v means =
     let refusal : IsFirstBadOf IsVersionText text place = told_bad text (Err (BadVersion place)) told in
     absurd (refusal.refused (v, means))
+
+pub told_meant : (text : List ℕ) (r : Result Version VersionFault) → Tells text r → MatchResult r (λ v. version_meant text ≡ Ok v) (RefusesAt (version_meant text))
+unfolding version_meant
+told_meant text (Ok v) (stage, stands, ends) = ended_meant step finish Fresh stage text v stands ends
+told_meant text (Err Memory) told = tt
+told_meant text (Err (BadVersion place)) (inl stop) = stopped_meant step finish Fresh stop.stage text place stop.inside stop.stands stop.stops
+told_meant text (Err (BadVersion place)) (inr open_end) =
+    unended_meant step finish Fresh open_end.stage text open_end.stands open_end.unended ∙ ap Err (sym open_end.at_end)
+
+-- what the grammar reads is what the text means
+pub reads_meant : (text : List ℕ) (v : Version) → Reads text v → version_meant text ≡ Ok v
+unfolding version_meant
+reads_meant text v means = let (stage, stands, end) = knows.from text (v, means) in ended_meant step finish Fresh stage text v stands (reads_ended text stage v stands means)

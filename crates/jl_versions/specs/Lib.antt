@@ -1,5 +1,6 @@
 pub mod Grammar
 pub mod Machine
+pub mod Meant
 pub mod Order
 pub mod OrderLaws
 pub mod Pieces

@@ -3,8 +3,9 @@
 --     IsFirstBadOf P text place   text isn't in P, and place is the length of its longest front that begins a text of P
 --     run step s bytes            where the machine stands after the bytes, if it goes through them all
 --     Accepts step start IsEnd P  the machine knows P: its runs from start to an end are the texts of P, and each run can go on to an end
+--     meant_by step end start text    the value of the text, or the length of its longest front on which the machine runs
 -- `IsViable` and `IsFirstBadOf` name P alone: no machine is needed to read them.
-use Rattle.std.specs.Prelude.{◌≡◌, ℕ, ◌+◌, ◌<◌, ◌≤◌, List, [], ◌∷◌, ◌++◌, length, take, Option, None, Some, refl}
+use Rattle.std.specs.Prelude.{◌≡◌, ℕ, zero, suc, ◌+◌, ◌<◌, ◌≤◌, List, [], ◌∷◌, ◌++◌, length, take, Option, None, Some, Result, Ok, Err, refl}
 use Rattle.std.specs.Option.{option_and_then}
 use Rattle.std.proofs.Common.{sym, ◌∙◌, ap, subst, arith, get_or, drop}
 use Rattle.std.proofs.lemmas.List.{take_more, take-append-drop}
@@ -103,3 +104,60 @@ unended_first_bad {S} {step} {start} {IsEnd} {P} knows text s stands unended =
 pub run_further : {S : Type 0} (step : S → ℕ → Option S) (start s t : S) (text : List ℕ) (place : ℕ) → place < length text → run step start (take place text) ≡ Some s → Some t ≡ step s (get_or text place 0) → run step start (take (place + 1) text) ≡ Some t
 run_further step start s t text place inside stands goes =
     ap (run step start) (take_more text place 0 inside) ∙ run-snoc step start s (take place text) (get_or text place 0) stands ∙ sym goes
+
+-- one byte further, where the machine goes on
+abbrev pub further : {S : Type 0} → (S → ℕ) → Option S → ℕ
+further go None = 0
+further go (Some t) = suc (go t)
+
+-- the length of the longest front of the bytes on which the machine runs
+abbrev pub reach : {S : Type 0} → (S → ℕ → Option S) → S → List ℕ → ℕ
+reach step s [] = 0
+reach step s (byte ∷ bytes) = further (λ t. reach step t bytes) (step s byte)
+
+abbrev pub or_place : {V : Type 0} → ℕ → Option V → Result V ℕ
+or_place place None = Err place
+or_place place (Some value) = Ok value
+
+-- what a text means: its value where the machine runs through it to an end, else how far the machine runs
+abbrev pub meant_by : {S V : Type 0} → (S → ℕ → Option S) → (S → Option V) → S → List ℕ → Result V ℕ
+meant_by step end start text = or_place (reach step start text) (option_and_then end (run step start text))
+
+-- the machine stands at an end behind the text
+pub ended_meant : {S V : Type 0} (step : S → ℕ → Option S) (end : S → Option V) (start s : S) (text : List ℕ) (value : V)
+    → run step start text ≡ Some s → end s ≡ Some value → meant_by step end start text ≡ Ok value
+ended_meant step end start s text value stands ends = ap (λ o. or_place (reach step start text) (option_and_then end o)) stands ∙ ap (or_place (reach step start text)) ends
+
+-- a machine that runs through the bytes reaches all of them
+pub reach_all : {S : Type 0} (step : S → ℕ → Option S) (s t : S) (bytes : List ℕ) → run step s bytes ≡ Some t → reach step s bytes ≡ length bytes
+reach_all step s t [] goes = refl
+reach_all {S} step s t (byte ∷ bytes) goes =
+    elim (step s byte) as (λ o. option_and_then (λ u. run step u bytes) o ≡ Some t → further (λ u. reach step u bytes) o ≡ suc (length bytes)) [
+      | None ↦ λ e. absurd (none-some t e)
+      | Some u ↦ λ e. ap suc (reach_all step u t bytes e)
+    ] goes
+
+-- the machine runs through the text and stands at no end
+pub unended_meant : {S V : Type 0} (step : S → ℕ → Option S) (end : S → Option V) (start s : S) (text : List ℕ)
+    → run step start text ≡ Some s → end s ≡ None → meant_by step end start text ≡ Err (length text)
+unended_meant step end start s text stands unended =
+    ap (λ o. or_place (reach step start text) (option_and_then end o)) stands ∙ ap (or_place (reach step start text)) unended ∙ ap Err (reach_all step start s text stands)
+
+-- the machine stops at a byte: it reaches the bytes before it, and runs through no more
+pub stopped_reach : {S : Type 0} (step : S → ℕ → Option S) (start s : S) (text : List ℕ) (place : ℕ)
+    → place < length text → run step start (take place text) ≡ Some s → step s (get_or text place 0) ≡ None → (run step start text ≡ None) × (reach step start text ≡ place)
+stopped_reach step start s [] place inside stands stops = absurd (omega (arith, inside))
+stopped_reach step start s (byte ∷ bytes) zero inside stands stops =
+    let here : step start byte ≡ None = ap (λ u. step u byte) (same_Some start s stands) ∙ stops in
+    (ap (option_and_then (λ u. run step u bytes)) here, ap (further (λ u. reach step u bytes)) here)
+stopped_reach {S} step start s (byte ∷ bytes) (suc place) inside stands stops =
+    elim (step start byte) as (λ o. option_and_then (λ u. run step u (take place bytes)) o ≡ Some s → (option_and_then (λ u. run step u bytes) o ≡ None) × (further (λ u. reach step u bytes) o ≡ suc place)) [
+      | None ↦ λ e. absurd (none-some s e)
+      | Some u ↦ λ e. let rest = stopped_reach step u s bytes place (omega (arith, inside)) e stops in (rest.0, ap suc rest.1)
+    ] stands
+
+pub stopped_meant : {S V : Type 0} (step : S → ℕ → Option S) (end : S → Option V) (start s : S) (text : List ℕ) (place : ℕ)
+    → place < length text → run step start (take place text) ≡ Some s → step s (get_or text place 0) ≡ None → meant_by step end start text ≡ Err place
+stopped_meant step end start s text place inside stands stops =
+    let (none, far) = stopped_reach step start s text place inside stands stops in
+    ap (λ o. or_place (reach step start text) (option_and_then end o)) none ∙ ap Err far

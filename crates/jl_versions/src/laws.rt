@@ -1,9 +1,10 @@
 //! Laws of versions, each a function with an empty body whose contract is the law.
 
-ghost use Rattle.std.specs.Prelude.{◌≡◌, ◌↔◌, ◌⊎◌, ℕ, List, true};
+ghost use Rattle.std.specs.Prelude.{◌≡◌, ◌↔◌, ◌⊎◌, ℕ, List, Ok, true};
 ghost use Rattle.std.specs.declared.cmp.Ordering.TheVariants.{Less, Equal};
 ghost use Rattle.jl_versions.specs.declared.version.Version.{Version};
 ghost use Rattle.jl_versions.specs.Grammar.{Reads};
+ghost use Rattle.jl_versions.specs.Meant.{version_meant};
 ghost use Rattle.jl_versions.specs.Order.{IsBelow};
 ghost use Rattle.jl_versions.specs.Printing.{IsVersion, printed};
 
@@ -25,9 +26,10 @@ pub fn order_is_total()
     ensures through { (u v w : Version) → IsBelow u v → IsBelow v w → IsBelow u w }
 {}
 
-/// A text means at most one version.
+/// A text means at most one version, and the reading as a function gives it.
 pub fn text_means_one_version()
-    ensures { (text : List ℕ) (v w : Version) → Reads text v → Reads text w → v ≡ w }
+    ensures one { (text : List ℕ) (v w : Version) → Reads text v → Reads text w → v ≡ w }
+    ensures meant { (text : List ℕ) (v : Version) → Reads text v → version_meant text ≡ Ok v }
 {}
 
 /// The printed text of a version means that version. So what is printed reads again as it was.

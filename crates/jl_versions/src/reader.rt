@@ -4,7 +4,8 @@ ghost use Rattle.std.specs.Prelude.{◌≡◌, ◌*◌, ◌+◌, ◌-◌, IfOk, 
 ghost use Rattle.std.specs.Prelude.{IfErr};
 ghost use Rattle.jl_versions.specs.Machine.{run};
 ghost use Rattle.jl_versions.specs.Stages.{step, finish, number_step, label_step, triple_after, after_number, next_number, after_ident, labelled, version_of};
-ghost use Rattle.std.specs.Prelude.{MatchResult};
+ghost use Rattle.std.specs.Prelude.{MatchResult, Ok};
+ghost use Rattle.jl_versions.specs.Meant.{version_meant, RefusesAt};
 ghost use Rattle.jl_versions.specs.Grammar.{Reads};
 ghost use Rattle.jl_versions.specs.Refusals.{Refuses};
 ghost use Rattle.jl_versions.specs.declared.fault.VersionFault.TheVariants.{Memory};
@@ -253,6 +254,8 @@ impl Version {
         ensures only { (v : Version) → Reads text.now v → MatchResult result (λ found. found ≡ v) (λ fault. fault ≡ Memory) }
         // A refused text is no version text, and the place is where its longest good front ends.
         ensures bad { IfErr result (Refuses text.now) }
+        // The same as a function of the text.
+        ensures meant { MatchResult result (λ v. version_meant text.now ≡ Ok v) (RefusesAt (version_meant text.now)) }
     {
         read_bytes(alloc, text.as_bytes())
     }

@@ -3,6 +3,7 @@ pub mod ByName
 pub mod Path
 pub mod Steps
 pub mod Tree
+pub mod TreeIds
 pub mod Outside
 pub mod Stored
 pub mod Held

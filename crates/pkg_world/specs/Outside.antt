@@ -13,6 +13,9 @@ use Rattle.pkg_world.specs.declared.store.WriteAnswer.{WriteAnswer}
 use Rattle.pkg_world.specs.declared.store.WriteAnswer.TheVariants.{Done as WriteDone, Blocked as WriteBlocked, Failed as WriteFailed, Memory as WriteMemory}
 use Rattle.pkg_world.specs.declared.sink.PutAnswer.{PutAnswer}
 use Rattle.pkg_world.specs.declared.sink.PutAnswer.TheVariants.{Done as PutDone, Failed as PutFailed, Memory as PutMemory}
+use Rattle.pkg_world.specs.declared.asking.Unread.{Unread}
+use Rattle.pkg_world.specs.declared.asking.Unread.TheVariants.{Failed as UnreadFailed, Memory as UnreadMemory}
+use Rattle.pkg_world.specs.Listing.{Listing}
 use Rattle.pkg_world.specs.Path.{Path}
 use Rattle.pkg_world.specs.Tree.{Node, file, folder, Files, names, Content, bytes, a_folder, nothing, a_file, with_leaf}
 
@@ -90,3 +93,13 @@ PutGives piece old new PutMemory = new ≡ old
 abbrev pub PutFaultRose : PutAnswer → ℕ → ℕ → Type 0
 PutFaultRose PutFailed before now = Rose before now
 PutFaultRose _ before now = Unit {0}
+
+-- a store that told nothing of the asked path: it names the path, and the count rose
+abbrev pub UnreadRose : Path → ℕ → ℕ → Unread → Type 0
+UnreadRose asked before now (UnreadFailed path) = (path ≡ asked) × Rose before now
+UnreadRose asked before now UnreadMemory = Unit {0}
+
+-- listed names strictly rise by their bytes
+abbrev pub AreInOrder : Option (Listing (List ℕ)) → Type 0
+AreInOrder None = Unit {0}
+AreInOrder (Some found) = IsStrictlySortedBy (slice_cmp nat_cmp) found.items

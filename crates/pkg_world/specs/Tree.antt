@@ -61,6 +61,15 @@ is_file (bytes b) = true
 is_file a_folder = false
 is_file nothing = false
 
+abbrev pub is_folder : Content → Bool
+is_folder (bytes b) = false
+is_folder a_folder = true
+is_folder nothing = false
+
+-- the names in a folder, where one is there
+abbrev pub names_at : Option Node → Option (List (List ℕ))
+names_at there = option_map names (option_and_then files_in there)
+
 -- the bytes where a file is; a folder in a file's place counts as missing
 abbrev pub file_bytes : Content → Option (List ℕ)
 file_bytes (bytes b) = Some b

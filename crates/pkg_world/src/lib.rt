@@ -2,6 +2,7 @@
 //! the sink through which every byte comes and goes, with stores and sinks in memory for tests.
 #![tactic(auto)]
 
+mod asking;
 mod cause;
 mod list;
 mod mem;
@@ -16,8 +17,11 @@ mod sure;
 mod tests;
 mod text;
 mod tree;
+mod tree_id;
+mod values;
 mod writing;
 
+pub use asking::{Unread, file_at, is_file, is_folder, names_in};
 pub use cause::{Cause, LimitKind};
 pub use list::{Bytes, Ids, Listed, Names, NormPaths, States, TextList};
 pub use mem::{MemSink, MemStore, PutFail, StoreCall};
@@ -29,4 +33,6 @@ pub use sink::{PutAnswer, Sink};
 pub use store::{KindAnswer, ListAnswer, ReadAnswer, Store, WriteAnswer};
 pub use sure::{SureSink, SureStore};
 pub use text::{Duplicate, Name, Text};
+pub use tree_id::TreeId;
+pub use values::{ExtList, Values};
 pub use writing::writing_sets_one_path;

@@ -47,6 +47,11 @@ abbrev pub HasPath : Stop → Type 0
 HasPath (Refused refusal) = IsSome refusal.path
 HasPath StopMemory = Unit {0}
 
+-- what is refused has another kind, or is absent
+abbrev pub HasShape : Stop → Type 0
+HasShape (Refused refusal) = refusal.flaw ≡ Shape
+HasShape StopMemory = Unit {0}
+
 -- a stop as it is seen from the table above; the new path may want memory
 abbrev pub IsRaised : List ℕ → Stop → Stop → Type 0
 IsRaised key (Refused refusal) (Refused above) = above ≡ under key refusal

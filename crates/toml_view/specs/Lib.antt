@@ -2,3 +2,4 @@ pub mod Document
 pub mod Reading
 pub mod KeyOrder
 pub mod Answers
+pub mod Causes

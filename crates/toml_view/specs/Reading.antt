@@ -3,7 +3,9 @@
 use Rattle.std.specs.Prelude.{ℕ, List, [], ◌∷◌, ◌++◌, Option, Some, None, Result, Ok, Err}
 use Rattle.toml.specs.Data.{Data, Items, no_items, item, Members, no_members, member, get_member, as_str, as_array, as_table}
 use Rattle.uuid.specs.Text.{parsed}
-use Rattle.toml_view.specs.declared.refusal.Flaw.TheVariants.{Shape}
+use Rattle.jl_versions.specs.Meant.{version_meant}
+use Rattle.jl_versions.specs.declared.version.Version.{Version}
+use Rattle.toml_view.specs.declared.refusal.Flaw.TheVariants.{Shape, Version as BadVersionAt}
 use Rattle.toml_view.specs.declared.refusal.Refusal.{Refusal}
 
 -- a value of another kind
@@ -61,6 +63,14 @@ need read key members = need_at read key (get_member key members)
 -- an identifier: a text that the crate `uuid` reads
 abbrev pub uuid_of : Data → Result (List ℕ) Refusal
 uuid_of value = chained (λ text. or_shape (parsed text)) (text_of value)
+
+-- a version, or the first bad place of its text (Julia manual, Version Number Literals)
+abbrev pub or_version : Result Version ℕ → Result Version Refusal
+or_version (Ok version) = Ok version
+or_version (Err place) = Err (record { path = None; flaw = BadVersionAt place })
+
+abbrev pub version_at : Data → Result Version Refusal
+version_at value = chained (λ text. or_version (version_meant text)) (text_of value)
 
 -- the members of a list in its order
 abbrev pub items_read : {T : Type 0} → (Data → Result T Refusal) → Items → Result (List T) Refusal

@@ -4,7 +4,7 @@ ghost use Rattle.std.specs.Option.{option_copied};
 ghost use Rattle.toml.specs.Data.{get_member};
 ghost use Rattle.toml.specs.View.{view, table_view};
 ghost use Rattle.toml_view.specs.Reading.{at, opt, need, text_of, uuid_of, table_at, texts_at};
-ghost use Rattle.toml_view.specs.Answers.{RefusesKey, IsShapeFault, IsKeyFault, HasPath};
+ghost use Rattle.toml_view.specs.Answers.{RefusesKey, IsShapeFault, IsKeyFault, HasPath, HasShape};
 
 use crate::readers::{UuidReader, table_at, texts_at};
 use crate::refusal::{Flaw, Refusal, Stop};
@@ -109,7 +109,8 @@ pub fn text_or_list(alloc: Global, table: &Table, key: &str) -> Result<TextList,
 
 /// The fault of a stop at a key.
 fn key_fault(stop: Stop) -> KeyFault
-    requires { HasPath stop }
+    requires path { HasPath stop }
+    requires shape { HasShape stop }
     ensures { IsKeyFault result stop }
 {
     match stop {
@@ -121,6 +122,8 @@ fn key_fault(stop: Stop) -> KeyFault
                     Some(path) => KeyFault::BadShape(path),
                     None => unreachable!(),
                 },
+                Flaw::Version(_) => unreachable!(),
+                Flaw::Spec(_) => unreachable!(),
             }
         }
     }

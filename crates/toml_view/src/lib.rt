@@ -2,6 +2,7 @@
 #![tactic(auto)]
 
 mod document;
+mod halt;
 mod keys;
 mod nesting;
 mod reader;
@@ -10,8 +11,10 @@ mod refusal;
 #[cfg(test)]
 mod tests;
 mod values;
+mod versions;
 
 pub use document::{ViewFault, view};
+pub use halt::{Halt, halted, unviewed};
 pub use keys::{KeyFault, need_text, opt_text, text_or_list, uuid_table};
 pub use reader::{Reader, need, opt, other_shape, read_at};
 pub use readers::{
@@ -19,4 +22,5 @@ pub use readers::{
 };
 pub use refusal::{Flaw, Refusal, Stop};
 pub use toml::{Table, Value};
-pub use values::{NamedValues, Values};
+pub use values::NamedValues;
+pub use versions::VersionReader;

@@ -8,8 +8,8 @@ ghost use Rattle.toml_view.specs.Answers.{Refuses, HasPath};
 
 use crate::reader::{Reader, opt, other_shape, read_at};
 use crate::refusal::Stop;
-use crate::values::{NamedValues, Values};
-use pkg_world::{Listed, Name, Text};
+use crate::values::NamedValues;
+use pkg_world::{Listed, Name, Text, Values};
 use std::alloc::Global;
 use toml::value::Array;
 use toml::{Table, Value};

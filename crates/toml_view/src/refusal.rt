@@ -10,6 +10,10 @@ use std::alloc::{AllocError, Global};
 pub enum Flaw {
     /// It has another kind, or it is needed and absent.
     Shape,
+    /// It is no version text: the length of its longest front that begins one.
+    Version(u64),
+    /// It is no specifier or no range: the length of its longest front that begins one.
+    Spec(u64),
 }
 
 /// A value that is refused: what is wrong, and where. The path is the keys joined by dots, from the value that was

@@ -1,57 +1,10 @@
-//! What is read of a list or a table: its values alone, with no room that contracts see.
+//! What is read of a table: its values with their names, with no room that contracts see.
 ghost use Rattle.std.specs.Prelude.{◌≡◌, [], IsTrue};
 ghost use Rattle.pkg_world.specs.ByName.{is_by_name};
 
 use pkg_world::{Listed, Name, Named};
 use std::alloc::Global;
 use std::marker::Model;
-
-/// The values of a list, in order.
-#[derive(Debug, Drop)]
-pub struct Values<T> {
-    inside: Listed<T>,
-}
-
-impl<T> Model for Values<T> {
-    ghost use Rattle.std.specs.Prelude.{List};
-
-    ghost Value = { List T };
-
-    ghost view = { λ a. a.inside.items };
-}
-
-impl<T: Drop> Values<T> {
-    /// No values.
-    pub fn make(alloc: Global) -> Self
-        ensures { result ≡ [] }
-    {
-        Self {
-            inside: Listed::make(alloc),
-        }
-    }
-
-    /// The values of that list.
-    pub(crate) fn of(list: Listed<T>) -> Self
-        ensures { result ≡ list.items }
-    {
-        Self { inside: list }
-    }
-
-    /// The values, in order.
-    pub fn items(&self) -> &[T]
-        ensures { result.now ≡ self.now }
-    {
-        self.inside.items()
-    }
-
-    /// The list of the values.
-    pub fn into_list(self) -> Listed<T>
-        ensures { result.items ≡ self }
-    {
-        let Self { inside } = self;
-        inside
-    }
-}
 
 /// The values of a table with their names, in the order of the names.
 #[derive(Debug, Drop)]
