@@ -1,1 +1,3 @@
 pub mod NamesInOrder
+pub mod Walks
+pub mod Marks

@@ -1,1 +1,3 @@
 pub mod Row
+pub mod Sections
+pub mod Versions

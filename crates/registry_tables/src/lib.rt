@@ -1,11 +1,12 @@
 //! Registries.
 #![tactic(auto)]
 
+mod entries;
 mod expanding;
 mod kept_ranges;
 mod name_key;
 mod package_rows;
-mod tree_id;
+mod versions;
 
 pub use expanding::{CompatList, Row, expand};
 pub use package_rows::{

@@ -1,8 +1,7 @@
 //! The tables of a package in a registry: its versions, and the entries of its sections.
-use crate::tree_id::TreeId;
 use compat_spec::{Range, RangeSet};
 use jl_versions::Version;
-use pkg_world::{Listed, Name};
+use pkg_world::{Listed, Name, TreeId};
 use uuid::Uuid;
 
 /// A listed version: its tree, and whether it is yanked.

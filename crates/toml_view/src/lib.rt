@@ -16,7 +16,7 @@ mod versions;
 pub use document::{ViewFault, view};
 pub use halt::{Halt, halted, unviewed};
 pub use keys::{KeyFault, need_text, opt_text, text_or_list, uuid_table};
-pub use reader::{Reader, need, opt, other_shape, read_at};
+pub use reader::{Reader, need, opt, other_shape, read_at, stop_at};
 pub use readers::{
     Each, ListOf, NameReader, TextReader, TextsReader, UuidReader, table_at, texts_at,
 };

@@ -55,7 +55,7 @@ pub fn read_at<R: Reader>(
 }
 
 /// The stop as it is seen from the table that has the value at that key.
-fn stop_at(alloc: Global, key: &str, stop: Stop) -> Stop
+pub fn stop_at(alloc: Global, key: &str, stop: Stop) -> Stop
     ensures { IsRaised key.now stop result }
 {
     match stop {
