@@ -1,3 +1,4 @@
+pub mod Answers
 pub mod Row
 pub mod Sections
 pub mod Versions

@@ -1,9 +1,10 @@
 -- What a file's bytes have as their table, from what reading them told.
-use Rattle.std.proofs.Common.{◌≡◌, ℕ, nat_le, true, false, List, Option, Some, None, Ok, Err, inl, inr}
-use Rattle.std.proofs.lemmas.Bool.{cases_Bool}
-use Rattle.std.proofs.lemmas.Str.{is_utf8-from_IsUtf8, IsUtf8-from_is_utf8}
+use Rattle.std.proofs.Common.{◌≡◌, ◌≤◌, ℕ, nat_le, arith, String, string_bytes, true, false, List, Option, Some, None, Ok, Err, inl, inr}
+use Rattle.std.proofs.lemmas.Bool.{cases_Bool, le-leb}
+use Rattle.std.proofs.lemmas.Str.{is_utf8-from_IsUtf8, IsUtf8-from_is_utf8, IsUtf8-string_bytes}
 use Rattle.std.specs.Str.{IsUtf8, is_utf8}
-use Rattle.toml.specs.Data.{Members}
+use Rattle.std.specs.declared.alloc.Global.{Global}
+use Rattle.toml.specs.Data.{Members, members_depth}
 use Rattle.toml.specs.Parse.{parse_document}
 use Rattle.toml_view.specs.Document.{document_of, nesting, nesting_limit, viewed, viewed_document, bad_toml, deep}
 
@@ -28,3 +29,10 @@ viewed_deep bytes members text parsed past = rw (at_document bytes (Some members
 
 pub viewed_bad : (bytes : List ℕ) → (IsUtf8 bytes → parse_document bytes ≡ None) → viewed bytes ≡ Err bad_toml
 viewed_bad bytes refused = rw (at_document bytes None (document-none bytes refused))
+
+-- a printed table reads again
+pub viewed_printed : (text : String Global) (members : Members) → nesting members ≤ nesting_limit
+    → (members_depth members ≤ 80 → parse_document (string_bytes text) ≡ Some members) → viewed (string_bytes text) ≡ Ok members
+viewed_printed text members within parsed =
+    let room : members_depth members ≤ 80 = omega arith in
+    viewed_ok (string_bytes text) members (IsUtf8-string_bytes text) (parsed room) (le-leb (nesting members) nesting_limit within)

@@ -1,6 +1,7 @@
 //! The table of a file's bytes.
-ghost use Rattle.std.specs.Prelude.{◌≡◌};
-ghost use Rattle.toml_view.specs.Document.{viewed};
+ghost use Rattle.std.specs.Prelude.{◌≡◌, ◌≤◌, IfOk};
+ghost use Rattle.toml.specs.View.{table_view};
+ghost use Rattle.toml_view.specs.Document.{viewed, nesting, nesting_limit};
 ghost use Rattle.toml_view.specs.Answers.{GivesView};
 
 use crate::nesting::is_within_limit;
@@ -25,7 +26,8 @@ pub enum ViewFault {
 /// and else as Deep exactly where the nesting of its tables and lists, the file's own table counted, passes 64
 /// (a rule of this program's own).
 pub fn view(alloc: Global, bytes: &[u8]) -> Result<Table, ViewFault>
-    ensures { GivesView result bytes.now }
+    ensures told { GivesView result bytes.now }
+    ensures within { IfOk result (λ table. nesting (table_view table) ≤ nesting_limit) }
 {
     match toml::de::table_from_slice(alloc, bytes) {
         Ok(table) => {

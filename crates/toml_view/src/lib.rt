@@ -5,6 +5,7 @@ mod document;
 mod halt;
 mod keys;
 mod nesting;
+mod print;
 mod reader;
 mod readers;
 mod refusal;
@@ -16,6 +17,7 @@ mod versions;
 pub use document::{ViewFault, view};
 pub use halt::{Halt, halted, unviewed};
 pub use keys::{KeyFault, need_text, opt_text, text_or_list, uuid_table};
+pub use print::{PrintFault, print_table};
 pub use reader::{Reader, need, opt, other_shape, read_at, stop_at};
 pub use readers::{
     Each, ListOf, NameReader, TextReader, TextsReader, UuidReader, table_at, texts_at,

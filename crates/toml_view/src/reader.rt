@@ -54,9 +54,10 @@ pub fn read_at<R: Reader>(
     }
 }
 
-/// The stop as it is seen from the table that has the value at that key.
+/// The stop as it is seen from the table that has the value at that key, or want of memory for its path.
 pub fn stop_at(alloc: Global, key: &str, stop: Stop) -> Stop
-    ensures { IsRaised key.now stop result }
+    ensures raised { IsRaised key.now stop result }
+    ensures path { HasPath result }
 {
     match stop {
         Stop::Memory => Stop::Memory,

@@ -1,8 +1,10 @@
 //! What no clause says: that the calls succeed, and examples of their answers.
 use super::*;
+use crate::nesting::is_within_limit;
 use pkg_world::Text;
 use std::alloc::{AllocError, Global};
 use std::test::Fail;
+use toml::value::{Date, Datetime};
 
 const FILE: &str = "text = \"x\"\nnumber = 5\nlist = [\"a\", \"b\"]\nmixed = [\"a\", 5]\n\
     [ids]\nB = \"22222222-2222-2222-2222-222222222222\"\nA = \"11111111111111111111111111111111\"\n\
@@ -116,5 +118,55 @@ fn identifiers_are_found_in_the_order_of_names(rt: HostRuntime) -> Result<(), Fa
     let (first, id) = &ids.items()[0];
     assert_eq!(rt; first.as_str(), "A");
     assert_eq!(rt; id.as_bytes()[0], 0x11);
+    Ok(())
+}
+
+const PRINTED: &str =
+    "d = 2026-02-28T23:59:00.5-03:30\nday = 2024-02-29\nf = 0.5\nn = -7\nt = \"\\u00e9 \\\"\\n\"\n\
+    yes = true\nlist = [[1, 2], [], [{ k = 07:32:00 }]]\n[a]\n[a.\"b c\"]\nx = 1\n[[many]]\nx = 1\n[[many]]\n";
+
+#[test]
+fn a_printed_table_reads_again_to_an_equal_table(rt: HostRuntime) -> Result<(), Fail> {
+    let table = view(rt.alloc(), PRINTED.as_bytes())?;
+    assert_eq!(rt; table.len(), 9);
+    let bytes = print_table(rt.alloc(), &table)?;
+    let again = view(rt.alloc(), bytes.items())?;
+    assert!(rt; again == table);
+    Ok(())
+}
+
+/// The table of one date at a key.
+fn dated(alloc: Global, year: u16, month: u8, day: u8) -> Result<Table, AllocError> {
+    let mut table = Table::new(alloc);
+    let date = Datetime {
+        date: Some(Date { year, month, day }),
+        time: None,
+        offset: None,
+    };
+    let _ = table.insert(String::from_str(alloc, "day")?, Value::Datetime(date))?;
+    Ok(table)
+}
+
+fn printed(alloc: Global, table: &Table) -> &'static str {
+    if !is_within_limit(table) {
+        return "deep";
+    }
+    match print_table(alloc, table) {
+        Ok(_) => "printed",
+        Err(PrintFault::BadDate) => "bad date",
+        Err(PrintFault::Memory) => "memory",
+    }
+}
+
+#[test]
+fn a_date_that_is_no_day_is_refused(rt: HostRuntime) -> Result<(), Fail> {
+    for (year, month, day, want) in [
+        (2024, 2, 29, "printed"),
+        (2026, 2, 29, "bad date"),
+        (2026, 13, 1, "bad date"),
+    ] {
+        let table = dated(rt.alloc(), year, month, day)?;
+        assert_eq!(rt; printed(rt.alloc(), &table), want, "{year} {month} {day}");
+    }
     Ok(())
 }
