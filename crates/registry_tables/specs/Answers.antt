@@ -1,23 +1,23 @@
 -- Why a registry's file can't be used, and what the answers of the crate's calls tell of the files.
 use Rattle.std.specs.Prelude.{◌≡◌, ℕ, List, [], Option, Some, None, String, Result, Ok, Err, MatchResult}
-use Rattle.std.specs.Option.{unwrap_or}
 use Rattle.std.specs.BTreeMap.{BTreeMap}
 use Rattle.std.specs.declared.alloc.Global.{Global}
 use Rattle.toml.specs.Data.{Members}
 use Rattle.toml.specs.View.{table_view}
 use Rattle.toml.specs.declared.value.Value.{Value}
-use Rattle.toml_view.specs.Document.{viewed, ViewRefusal, bad_toml, deep}
+use Rattle.toml_view.specs.Document.{viewed}
+use Rattle.toml_view.specs.Causes.{of_view}
 use Rattle.toml_view.specs.declared.refusal.Refusal.{Refusal}
 use Rattle.toml_view.specs.declared.refusal.Stop.{Stop}
-use Rattle.toml_view.specs.declared.refusal.Stop.TheVariants.{Refused as StopRefused, Memory as StopMemory}
-use Rattle.toml_view.specs.declared.document.ViewFault.{ViewFault}
-use Rattle.toml_view.specs.declared.document.ViewFault.TheVariants.{BadToml as ViewBadToml, Deep as ViewDeep, Memory as ViewMemory}
+use Rattle.toml_view.specs.declared.halt.Halt.{Halt}
+use Rattle.toml_view.specs.declared.halt.Halt.TheVariants.{Refused}
 use Rattle.toml_view.specs.Answers.{Refuses as StopRefuses}
 use Rattle.pkg_world.specs.Outside.{Rose}
 use Rattle.pkg_world.specs.Path.{Path}
 use Rattle.pkg_world.specs.Tree.{Files, holds, file_bytes}
+use Rattle.pkg_world.specs.declared.asking.Unread.{Unread}
+use Rattle.pkg_world.specs.declared.asking.Unread.TheVariants.{Failed, Memory as UnreadMemory}
 use Rattle.pkg_world.specs.declared.cause.Cause.{Cause}
-use Rattle.pkg_world.specs.declared.cause.Cause.TheVariants.{BadToml, Deep, BadShape}
 use Rattle.registry_tables.specs.declared.fault.RegFault.{RegFault}
 use Rattle.registry_tables.specs.declared.fault.RegFault.TheVariants.{ReadFault, MissingFile, BadFile, Memory}
 
@@ -35,20 +35,14 @@ abbrev pub then_read : {S T : Type 0} → (S → Read T) → Read S → Read T
 then_read next (Ok value) = next value
 then_read next (Err unusable) = Err unusable
 
--- the cause of a refused key
-abbrev pub cause_of : Refusal → Cause
-cause_of refusal = BadShape (unwrap_or refusal.path [])
-
--- what the reading of a file's table gives
-abbrev pub at_file : {T : Type 0} → Path → Result T Refusal → Read T
+-- what a file's bytes give
+abbrev pub at_file : {T : Type 0} → Path → Result T Cause → Read T
 at_file file (Ok value) = Ok value
-at_file file (Err refusal) = Err (bad file (cause_of refusal))
+at_file file (Err cause) = Err (bad file cause)
 
--- the members of a file's table
-abbrev pub of_view : Path → Result Members ViewRefusal → Read Members
-of_view file (Ok members) = Ok members
-of_view file (Err bad_toml) = Err (bad file BadToml)
-of_view file (Err deep) = Err (bad file Deep)
+-- the members of the bytes' table
+abbrev pub members_of : List ℕ → Result Members Cause
+members_of bytes = of_view (λ members. Ok members) (viewed bytes)
 
 abbrev pub some_of : Read Members → Read (Option Members)
 some_of (Ok members) = Ok (Some members)
@@ -56,7 +50,7 @@ some_of (Err unusable) = Err unusable
 
 abbrev pub optional_of : Path → Option (List ℕ) → Read (Option Members)
 optional_of file None = Ok None
-optional_of file (Some bytes) = some_of (of_view file (viewed bytes))
+optional_of file (Some bytes) = some_of (at_file file (members_of bytes))
 
 -- the table of a file that may be absent; a folder in its place counts as absent
 abbrev pub optional_table : Files → Path → Read (Option Members)
@@ -95,13 +89,17 @@ LoadsOption reading answer = MatchResult answer (λ table. reading ≡ Ok (seen_
 abbrev pub Gives : {T : Type 0} → Result T Stop → Result T Refusal → Type 0
 Gives answer reading = MatchResult answer (λ value. reading ≡ Ok value) (λ stop. StopRefuses stop reading)
 
--- the refusal of a file, from the stop of its table's reading; copying the path may want memory
-abbrev pub IsRefusedAt : Path → Stop → RegFault → Type 0
-IsRefusedAt file stop (ReadFault path) = ⊥
-IsRefusedAt file stop (MissingFile path) = ⊥
-IsRefusedAt file (StopRefused refusal) (BadFile path cause) = (path ≡ file) × (cause ≡ cause_of refusal)
-IsRefusedAt file StopMemory (BadFile path cause) = ⊥
-IsRefusedAt file stop Memory = Unit {0}
+-- the refusal of a file whose bytes' reading halted; copying the path may want memory
+abbrev pub IsRefusedAt : Path → Halt → RegFault → Type 0
+IsRefusedAt file halt (ReadFault path) = ⊥
+IsRefusedAt file halt (MissingFile path) = ⊥
+IsRefusedAt file halt (BadFile path cause) = (path ≡ file) × (halt ≡ Refused cause)
+IsRefusedAt file halt Memory = Unit {0}
+
+-- what a store tells nothing of, as a fault
+abbrev pub unread_fault : Unread → RegFault
+unread_fault (Failed path) = ReadFault path
+unread_fault UnreadMemory = Memory
 
 -- a failed read, only where the store's count of them rose
 abbrev pub OnlyReadFault : ℕ → ℕ → RegFault → Type 0

@@ -1,4 +1,5 @@
 pub mod Answers
 pub mod Row
+pub mod Rows
 pub mod Sections
 pub mod Versions

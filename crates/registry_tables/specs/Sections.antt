@@ -103,10 +103,15 @@ versions_of members = mapped rising (all_marked [] members)
 abbrev pub same_text : List ℕ → List ℕ → Result (Unit {0}) Refusal
 same_text wanted found = or_shape (if bytes_eq found wanted then Some tt else None)
 
+abbrev pub that_name : List ℕ → Data → Result (Unit {0}) Refusal
+that_name name value = chained (same_text name) (text_of value)
+
+abbrev pub that_uuid : List ℕ → Data → Result (Unit {0}) Refusal
+that_uuid uuid value = chained (same_text uuid) (uuid_of value)
+
 -- the name and the identifier are those of the registry
 abbrev pub package_of : List ℕ → List ℕ → Members → Result (Unit {0}) Refusal
-package_of name uuid members =
-    chained (λ _. need (λ value. chained (same_text uuid) (uuid_of value)) (codes "uuid") members) (need (λ value. chained (same_text name) (text_of value)) (codes "name") members)
+package_of name uuid members = chained (λ _. need (that_uuid uuid) (codes "uuid") members) (need (that_name name) (codes "name") members)
 
 -- ---- answers
 

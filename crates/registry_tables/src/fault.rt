@@ -1,7 +1,7 @@
 //! Why a registry can't be used.
 ghost use Rattle.std.specs.Prelude.{◌≡◌};
 
-use pkg_world::{Cause, NormPath};
+use pkg_world::{Cause, NormPath, Unread};
 use std::alloc::AllocError;
 use thiserror::Error;
 
@@ -28,5 +28,18 @@ impl From<AllocError> for RegFault {
 
     fn from(_none: AllocError) -> RegFault {
         RegFault::Memory
+    }
+}
+
+impl From<Unread> for RegFault {
+    ghost use Rattle.registry_tables.specs.Answers.{unread_fault};
+
+    ghost from_gives = { λ unread fault. fault ≡ unread_fault unread };
+
+    fn from(unread: Unread) -> RegFault {
+        match unread {
+            Unread::Failed(path) => RegFault::ReadFault(path),
+            Unread::Memory => RegFault::Memory,
+        }
     }
 }

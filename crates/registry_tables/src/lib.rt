@@ -9,6 +9,7 @@ mod kept_ranges;
 mod name_key;
 mod package_list;
 mod package_rows;
+mod reading;
 mod versions;
 
 pub use expanding::{CompatList, Row, expand};
@@ -17,3 +18,4 @@ pub use package_list::{Package, PackageList, Registry};
 pub use package_rows::{
     Entry, IdEntries, IdEntry, PackageRows, RangeEntries, RangeEntry, VersionRow, VersionRows,
 };
+pub use reading::rows;
