@@ -1,3 +1,4 @@
 pub mod NamesInOrder
 pub mod Walks
 pub mod Marks
+pub mod Twice

@@ -1,4 +1,5 @@
 pub mod Answers
+pub mod Clash
 pub mod Row
 pub mod Rows
 pub mod Sections

@@ -1,18 +1,20 @@
 -- The tables of a package in a registry (Pkg, registries), read from the files of its folder in a fixed order: the first
 -- file that is missing or refused counts.
 --     rows_in files registry uuid     the tables of a package; None where the registry doesn't list it
-use Rattle.std.specs.Prelude.{◌≡◌, ℕ, Bool, List, [], ◌∷◌, ◌++◌, map, find, codes, Option, Some, None, Result, Ok, Err, MatchResult, option_map}
+use Rattle.std.specs.Prelude.{◌≡◌, ℕ, List, [], ◌∷◌, ◌++◌, map, find, codes, Option, Some, None, Result, Ok, Err, MatchResult, option_map}
 use Rattle.std.specs.Str.{bytes_eq}
 use Rattle.toml.specs.Data.{Data, Members}
 use Rattle.toml_view.specs.Reading.{uuid_of}
 use Rattle.toml_view.specs.Causes.{caused}
 use Rattle.toml_view.specs.declared.refusal.Refusal.{Refusal}
+use Rattle.pkg_world.specs.declared.cause.Cause.{Cause}
 use Rattle.pkg_world.specs.Path.{Path, joined}
 use Rattle.pkg_world.specs.Tree.{Files}
 use Rattle.compat_spec.specs.Ranges.{Ranged}
 use Rattle.compat_spec.specs.Listing.{Listing as Room}
 use Rattle.pkg_world.specs.Listing.{Listing}
-use Rattle.registry_tables.specs.Answers.{Read, Refuses, missing, then_read, at_file, needed_table, optional_table}
+use Rattle.registry_tables.specs.Answers.{Read, Refuses, missing, then_read, at_file, needed_table, optional_table, bad}
+use Rattle.registry_tables.specs.Clash.{clash_in, clash_cause, same_id, id_text, same_ranges, ranges_text}
 use Rattle.registry_tables.specs.Sections.{sections_of, ranges_of, versions_of, package_of, bare}
 use Rattle.registry_tables.specs.declared.package_list.Package.{Package}
 use Rattle.registry_tables.specs.declared.package_list.Registry.{Registry}
@@ -48,30 +50,42 @@ versions_at files file = then_read (λ members. at_file file (caused (versions_o
 abbrev pub versions_in : Files → Path → Read (List VersionRow)
 versions_in files folder = versions_at files (folder ++ codes "Versions.toml" ∷ [])
 
--- a table with sections; where its file is absent it has no entries
-abbrev pub sections_at : {T : Type 0} → (Data → Result T Refusal) → Path → Option Members → Read (List (Entry T))
-sections_at read file None = Ok []
-sections_at read file (Some members) = at_file file (caused (sections_of read members))
+-- what clashes in a table of dependencies, and in one of compat
+abbrev pub id_clash : List VersionRow → List (Entry (List ℕ)) → Option Cause
+id_clash versions entries = option_map (clash_cause id_text) (clash_in same_id versions entries)
 
-abbrev pub sections_in : {T : Type 0} → (Data → Result T Refusal) → Files → Path → Read (List (Entry T))
-sections_in read files file = then_read (sections_at read file) (optional_table files file)
+abbrev pub range_clash : List VersionRow → List (Entry (List Ranged)) → Option Cause
+range_clash versions entries = option_map (clash_cause ranges_text) (clash_in same_ranges versions entries)
 
-unfoldable pub tables_in : Files → Path → List ℕ → List ℕ → Read Tables
-tables_in files folder deps_name compat_name =
-    then_read (λ deps. then_read (λ compat. Ok (record { deps = deps; compat = compat })) (sections_in ranges_of files (folder ++ compat_name ∷ [])))
-    (sections_in uuid_of files (folder ++ deps_name ∷ []))
+-- the entries, unless two of them clash
+abbrev pub unless_clash : {T : Type 0} → Path → Option Cause → List (Entry T) → Read (List (Entry T))
+unless_clash file None entries = Ok entries
+unless_clash file (Some cause) entries = Err (bad file cause)
 
-abbrev pub strong_in : Files → Path → Read Tables
-strong_in files folder = tables_in files folder (codes "Deps.toml") (codes "Compat.toml")
+-- a table with sections; a clash comes after its other refusals, and where the file is absent there are no entries
+abbrev pub sections_at : {T : Type 0} → (Data → Result T Refusal) → (List (Entry T) → Option Cause) → Path → Option Members → Read (List (Entry T))
+sections_at read clash file None = Ok []
+sections_at read clash file (Some members) = then_read (λ entries. unless_clash file (clash entries) entries) (at_file file (caused (sections_of read members)))
 
-abbrev pub weak_in : Files → Path → Read Tables
-weak_in files folder = tables_in files folder (codes "WeakDeps.toml") (codes "WeakCompat.toml")
+abbrev pub sections_in : {T : Type 0} → (Data → Result T Refusal) → (List (Entry T) → Option Cause) → Files → Path → Read (List (Entry T))
+sections_in read clash files file = then_read (sections_at read clash file) (optional_table files file)
+
+unfoldable pub tables_in : Files → Path → List VersionRow → List ℕ → List ℕ → Read Tables
+tables_in files folder versions deps_name compat_name =
+    then_read (λ deps. then_read (λ compat. Ok (record { deps = deps; compat = compat })) (sections_in ranges_of (range_clash versions) files (folder ++ compat_name ∷ [])))
+    (sections_in uuid_of (id_clash versions) files (folder ++ deps_name ∷ []))
+
+abbrev pub strong_in : Files → Path → List VersionRow → Read Tables
+strong_in files folder versions = tables_in files folder versions (codes "Deps.toml") (codes "Compat.toml")
+
+abbrev pub weak_in : Files → Path → List VersionRow → Read Tables
+weak_in files folder versions = tables_in files folder versions (codes "WeakDeps.toml") (codes "WeakCompat.toml")
 
 -- the tables with sections
 unfoldable pub with_versions : Files → Package → Path → List VersionRow → Read Rows
 with_versions files wanted folder versions =
     then_read (λ strong. then_read (λ weak. Ok (record { name = wanted.name; uuid = wanted.uuid; versions = versions; strong = strong; weak = weak }))
-    (weak_in files folder)) (strong_in files folder)
+    (weak_in files folder versions)) (strong_in files folder versions)
 
 abbrev pub after_package : Files → Package → Path → Read Rows
 after_package files wanted folder = then_read (with_versions files wanted folder) (versions_in files folder)

@@ -3,7 +3,7 @@
 --     sections_of read members      the entries of all sections, in the order of the headings' bytes and then of the names'
 --     versions_of members           the listed versions, in rising order
 --     package_of name uuid members  whether a table is that of this package
-use Rattle.std.specs.Prelude.{◌≡◌, ℕ, Bool, false, List, [], ◌∷◌, ◌++◌, map, codes, Option, Some, None, Result, Ok, Err, if◌then◌else◌, MatchResult}
+use Rattle.std.specs.Prelude.{◌≡◌, ℕ, Bool, false, List, [], ◌∷◌, ◌++◌, map, codes, Some, None, Result, Ok, Err, if◌then◌else◌, MatchResult}
 use Rattle.std.specs.List.{list_any}
 use Rattle.std.specs.Option.{unwrap_or}
 use Rattle.std.specs.Ordering.{is_eq}

@@ -1,5 +1,5 @@
 -- What the steps of reading versions cite: the versions so far stand in a map.
-use Rattle.std.specs.Prelude.{ℕ, List, Option, Some, None, Result, if◌then◌else◌, is_some}
+use Rattle.std.specs.Prelude.{ℕ, List, Some, None, Result, if◌then◌else◌, is_some}
 use Rattle.std.specs.BTreeMap.{is_at}
 use Rattle.std.specs.Map.{lookup}
 use Rattle.toml.specs.Data.{Data}

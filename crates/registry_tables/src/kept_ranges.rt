@@ -44,6 +44,13 @@ impl KeptRanges {
         })
     }
 
+    /// The ranges, in order.
+    pub(crate) fn items(&self) -> &[Range]
+        ensures { result.now ≡ self.now }
+    {
+        self.set.items()
+    }
+
     pub(crate) fn into_set(self) -> RangeSet
         ensures { result.items ≡ self }
     {

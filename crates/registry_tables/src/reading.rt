@@ -10,15 +10,19 @@ ghost use Rattle.registry_tables.specs.Answers.{Loads, Refuses, ReadFaultRose, N
 ghost use Rattle.registry_tables.specs.Sections as sections_spec;
 ghost use Rattle.registry_tables.specs.Rows as spec;
 
+use crate::clash::clash_in;
 use crate::entries::{RangesReader, sections, with_sets};
 use crate::fault::RegFault;
 use crate::file::{needed_table, optional_table, refused_at};
+use crate::kept_ranges::KeptRanges;
 use crate::package_list::{Package, Registry};
-use crate::package_rows::{IdEntries, PackageRows, RangeEntries, VersionRows};
+use crate::package_rows::{Entry, IdEntries, PackageRows, RangeEntries, VersionRows};
 use crate::versions::versions;
 use pkg_world::{Duplicate, Listed, Name, NormPath, PathFault, Store};
 use std::alloc::Global;
-use toml_view::{NameReader, Reader, Stop, Table, UuidReader, Value, halted, need, other_shape};
+use toml_view::{
+    Halt, NameReader, Reader, Stop, Table, UuidReader, Value, halted, need, other_shape,
+};
 use uuid::Uuid;
 
 /// The entries of a table of dependencies, and of the compat table beside it.
@@ -132,8 +136,8 @@ fn with_versions<S: Store>(
     ensures later { S.read_faults store.old ≤ S.read_faults store.new }
     ensures other { S.write_faults store.new ≡ S.write_faults store.old }
 {
-    match strong_in(alloc, store, folder) {
-        Ok(strong) => match weak_in(alloc, store, folder) {
+    match strong_in(alloc, store, folder, &versions) {
+        Ok(strong) => match weak_in(alloc, store, folder, &versions) {
             Ok(weak) => joined(alloc, wanted, versions, strong, weak),
             Err(fault) => Err(fault),
         },
@@ -310,24 +314,41 @@ fn versions_of(alloc: Global, file: &NormPath, table: &Table) -> Result<VersionR
     }
 }
 
-fn strong_in<S: Store>(alloc: Global, store: &mut S, folder: &NormPath) -> Result<Tables, RegFault>
-    ensures told { IfSome (S.files store.old) (λ all. spec.LoadsTables (spec.strong_in all folder.now) result) }
+fn strong_in<S: Store>(
+    alloc: Global,
+    store: &mut S,
+    folder: &NormPath,
+    versions: &VersionRows,
+) -> Result<Tables, RegFault>
+    ensures told { IfSome (S.files store.old) (λ all. spec.LoadsTables (spec.strong_in all folder.now versions.now.items) result) }
     ensures fault { IfErr result (ReadFaultRose (S.read_faults store.old) (S.read_faults store.new)) }
     ensures files { S.files store.new ≡ S.files store.old }
     ensures later { S.read_faults store.old ≤ S.read_faults store.new }
     ensures other { S.write_faults store.new ≡ S.write_faults store.old }
 {
-    tables_in(alloc, store, folder, "Deps.toml", "Compat.toml")
+    tables_in(alloc, store, folder, versions, "Deps.toml", "Compat.toml")
 }
 
-fn weak_in<S: Store>(alloc: Global, store: &mut S, folder: &NormPath) -> Result<Tables, RegFault>
-    ensures told { IfSome (S.files store.old) (λ all. spec.LoadsTables (spec.weak_in all folder.now) result) }
+fn weak_in<S: Store>(
+    alloc: Global,
+    store: &mut S,
+    folder: &NormPath,
+    versions: &VersionRows,
+) -> Result<Tables, RegFault>
+    ensures told { IfSome (S.files store.old) (λ all. spec.LoadsTables (spec.weak_in all folder.now versions.now.items) result) }
     ensures fault { IfErr result (ReadFaultRose (S.read_faults store.old) (S.read_faults store.new)) }
     ensures files { S.files store.new ≡ S.files store.old }
     ensures later { S.read_faults store.old ≤ S.read_faults store.new }
     ensures other { S.write_faults store.new ≡ S.write_faults store.old }
 {
-    tables_in(alloc, store, folder, "WeakDeps.toml", "WeakCompat.toml")
+    tables_in(
+        alloc,
+        store,
+        folder,
+        versions,
+        "WeakDeps.toml",
+        "WeakCompat.toml",
+    )
 }
 
 /// The two tables of these names.
@@ -336,19 +357,20 @@ fn tables_in<S: Store>(
     alloc: Global,
     store: &mut S,
     folder: &NormPath,
+    versions: &VersionRows,
     deps_name: &str,
     compat_name: &str,
 ) -> Result<Tables, RegFault>
     requires deps { is_plain deps_name.now ≡ true }
     requires compat { is_plain compat_name.now ≡ true }
-    ensures told { IfSome (S.files store.old) (λ all. spec.LoadsTables (spec.tables_in all folder.now deps_name.now compat_name.now) result) }
+    ensures told { IfSome (S.files store.old) (λ all. spec.LoadsTables (spec.tables_in all folder.now versions.now.items deps_name.now compat_name.now) result) }
     ensures fault { IfErr result (ReadFaultRose (S.read_faults store.old) (S.read_faults store.new)) }
     ensures files { S.files store.new ≡ S.files store.old }
     ensures later { S.read_faults store.old ≤ S.read_faults store.new }
     ensures other { S.write_faults store.new ≡ S.write_faults store.old }
 {
-    match ids_in(alloc, store, folder, deps_name) {
-        Ok(deps) => match ranges_in(alloc, store, folder, compat_name) {
+    match ids_in(alloc, store, folder, versions, deps_name) {
+        Ok(deps) => match ranges_in(alloc, store, folder, versions, compat_name) {
             Ok(compat) => Ok(Tables { deps, compat }),
             Err(fault) => Err(fault),
         },
@@ -360,10 +382,11 @@ fn ids_in<S: Store>(
     alloc: Global,
     store: &mut S,
     folder: &NormPath,
+    versions: &VersionRows,
     name: &str,
 ) -> Result<IdEntries, RegFault>
     requires { is_plain name.now ≡ true }
-    ensures told { IfSome (S.files store.old) (λ all. spec.LoadsList (spec.sections_in uuid_of all (folder.now ++ name.now ∷ [])) result) }
+    ensures told { IfSome (S.files store.old) (λ all. spec.LoadsList (spec.sections_in uuid_of (spec.id_clash versions.now.items) all (folder.now ++ name.now ∷ [])) result) }
     ensures fault { IfErr result (ReadFaultRose (S.read_faults store.old) (S.read_faults store.new)) }
     ensures files { S.files store.new ≡ S.files store.old }
     ensures later { S.read_faults store.old ≤ S.read_faults store.new }
@@ -371,19 +394,40 @@ fn ids_in<S: Store>(
 {
     let file = folder.child(alloc, name)?;
     match optional_table(alloc, store, &file) {
-        Ok(Some(table)) => ids_of(alloc, &file, &table),
+        Ok(Some(table)) => ids_of(alloc, &file, versions, &table),
         Ok(None) => Ok(Listed::make(alloc)),
         Err(fault) => Err(fault),
     }
 }
 
-fn ids_of(alloc: Global, file: &NormPath, table: &Table) -> Result<IdEntries, RegFault>
-    ensures told { spec.LoadsList (at_file file.now (caused (sections_spec.sections_of uuid_of (table_view table.now)))) result }
+fn ids_of(
+    alloc: Global,
+    file: &NormPath,
+    versions: &VersionRows,
+    table: &Table,
+) -> Result<IdEntries, RegFault>
+    ensures told { spec.LoadsList (spec.sections_at uuid_of (spec.id_clash versions.now.items) file.now (Some (table_view table.now))) result }
     ensures fault { IfErr result NoReadFault }
 {
     match sections(alloc, &UuidReader, table) {
-        Ok(entries) => Ok(Listed::of_vec(entries)),
+        Ok(entries) => ids_unless_clash(alloc, file, versions, entries),
         Err(stop) => Err(refused_at(alloc, file, halted(stop))),
+    }
+}
+
+fn ids_unless_clash(
+    alloc: Global,
+    file: &NormPath,
+    versions: &VersionRows,
+    entries: Vec<Entry<Uuid>>,
+) -> Result<IdEntries, RegFault>
+    ensures told { spec.LoadsList (spec.unless_clash file.now (spec.id_clash versions.now.items entries.items) entries.items) result }
+    ensures fault { IfErr result NoReadFault }
+{
+    match clash_in(alloc, versions.items(), entries.as_slice()) {
+        Ok(None) => Ok(Listed::of_vec(entries)),
+        Ok(Some(cause)) => Err(refused_at(alloc, file, Halt::Refused(cause))),
+        Err(_) => Err(RegFault::Memory),
     }
 }
 
@@ -391,10 +435,11 @@ fn ranges_in<S: Store>(
     alloc: Global,
     store: &mut S,
     folder: &NormPath,
+    versions: &VersionRows,
     name: &str,
 ) -> Result<RangeEntries, RegFault>
     requires { is_plain name.now ≡ true }
-    ensures told { IfSome (S.files store.old) (λ all. spec.LoadsRanges (spec.sections_in sections_spec.ranges_of all (folder.now ++ name.now ∷ [])) result) }
+    ensures told { IfSome (S.files store.old) (λ all. spec.LoadsRanges (spec.sections_in sections_spec.ranges_of (spec.range_clash versions.now.items) all (folder.now ++ name.now ∷ [])) result) }
     ensures fault { IfErr result (ReadFaultRose (S.read_faults store.old) (S.read_faults store.new)) }
     ensures files { S.files store.new ≡ S.files store.old }
     ensures later { S.read_faults store.old ≤ S.read_faults store.new }
@@ -402,18 +447,39 @@ fn ranges_in<S: Store>(
 {
     let file = folder.child(alloc, name)?;
     match optional_table(alloc, store, &file) {
-        Ok(Some(table)) => ranges_of(alloc, &file, &table),
+        Ok(Some(table)) => ranges_of(alloc, &file, versions, &table),
         Ok(None) => Ok(Listed::make(alloc)),
         Err(fault) => Err(fault),
     }
 }
 
-fn ranges_of(alloc: Global, file: &NormPath, table: &Table) -> Result<RangeEntries, RegFault>
-    ensures told { spec.LoadsRanges (at_file file.now (caused (sections_spec.sections_of sections_spec.ranges_of (table_view table.now)))) result }
+fn ranges_of(
+    alloc: Global,
+    file: &NormPath,
+    versions: &VersionRows,
+    table: &Table,
+) -> Result<RangeEntries, RegFault>
+    ensures told { spec.LoadsRanges (spec.sections_at sections_spec.ranges_of (spec.range_clash versions.now.items) file.now (Some (table_view table.now))) result }
     ensures fault { IfErr result NoReadFault }
 {
     match sections(alloc, &RangesReader, table) {
-        Ok(entries) => Ok(with_sets(alloc, entries)?),
+        Ok(entries) => ranges_unless_clash(alloc, file, versions, entries),
         Err(stop) => Err(refused_at(alloc, file, halted(stop))),
+    }
+}
+
+fn ranges_unless_clash(
+    alloc: Global,
+    file: &NormPath,
+    versions: &VersionRows,
+    entries: Vec<Entry<KeptRanges>>,
+) -> Result<RangeEntries, RegFault>
+    ensures told { spec.LoadsRanges (spec.unless_clash file.now (spec.range_clash versions.now.items entries.items) entries.items) result }
+    ensures fault { IfErr result NoReadFault }
+{
+    match clash_in(alloc, versions.items(), entries.as_slice()) {
+        Ok(None) => Ok(with_sets(alloc, entries)?),
+        Ok(Some(cause)) => Err(refused_at(alloc, file, Halt::Refused(cause))),
+        Err(_) => Err(RegFault::Memory),
     }
 }

@@ -1,5 +1,5 @@
 -- the entries so far are put, and the rest is to be put
-use Rattle.std.proofs.Common.{◌≡◌, [], drop}
+use Rattle.std.proofs.Common.{◌≡◌, drop}
 use Rattle.registry_tables.specs.Row as spec
 use Rattle.registry_tables.proofs.expanding.held.Given as goal
 

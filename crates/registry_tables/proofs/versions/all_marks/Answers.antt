@@ -1,7 +1,5 @@
 use Rattle.std.proofs.Common.{◌≡◌, ◌∷◌, arith}
 use Rattle.std.proofs.lemmas.Grind.{common_steps}
-use Rattle.toml.specs.View.{members_view}
-use Rattle.registry_tables.specs.Sections.{all_marked}
 use Rattle.registry_tables.proofs.Walks.{TomlEntry}
 use Rattle.registry_tables.proofs.Marks.{marks-next, marks-refused}
 use Rattle.registry_tables.proofs.versions.all_marks.Goals as goal
