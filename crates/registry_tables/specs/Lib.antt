@@ -1,4 +1,8 @@
 pub mod Answers
+pub mod Registries
+pub mod Identifiers
+pub mod Registry
+pub mod RegistryKeys
 pub mod Clash
 pub mod Row
 pub mod Rows
