@@ -3,3 +3,8 @@ pub mod Registries
 pub mod Identifiers
 pub mod Registry
 pub mod RegistryKeys
+pub mod Clash
+pub mod Row
+pub mod Rows
+pub mod Sections
+pub mod Versions
