@@ -1,3 +1,3 @@
 pub mod Depots
 pub mod Endings
-pub mod Operands
+pub mod Found

@@ -1,26 +1,22 @@
 -- What each status, and each answer on the way to it, says.
-use Rattle.std.specs.Prelude.{◌≡◌, ℕ, List, ◌++◌, take, codes, Option, Some, None, option_map, Result, Ok, Err, MatchResult, MatchOption, String, string_bytes}
+use Rattle.std.specs.Prelude.{◌≡◌, ℕ, Bool, true, List, [], ◌∷◌, ◌++◌, take, codes, Option, Some, None, option_map, Result, Ok, Err, MatchResult, MatchOption, String, string_bytes}
+use Rattle.std.specs.List.{list_any}
+use Rattle.std.specs.Str.{bytes_eq}
 use Rattle.std.specs.declared.alloc.Global.{Global}
 use Rattle.pkg_world.specs.Outside.{Rose}
 use Rattle.pkg_top.specs.declared.status.Status.{Status}
-use Rattle.pkg_top.specs.declared.status.Status.TheVariants.{Ok as StatusOk, BadWords, BadFile, NoIdentity, NoSource, ReadFault, NotBuilt, Memory, SinkFault}
+use Rattle.pkg_top.specs.declared.status.Status.TheVariants.{Ok as StatusOk, BadWords, ReadFault, NotBuilt, Memory, SinkFault}
 use Rattle.pkg_top.specs.declared.status.Told.{Told}
 use Rattle.pkg_top.specs.declared.status.Told.TheVariants.{Whole, Failed, Memory as ToldMemory}
 use Rattle.pkg_top.specs.Lines.{status_line}
-use Rattle.pkg_top.specs.Words.{Asked}
-use Rattle.pkg_top.specs.Due.{asked_name}
 
 -- a refusal comes exactly where it is due; a failed read and want of memory tell nothing of the files
 abbrev pub Refuses : Result (List ℕ) Status → Status → Type 0
 Refuses due StatusOk = ⊥
-Refuses due (BadWords word) = due ≡ Err (BadWords word)
-Refuses due (BadFile path cause) = due ≡ Err (BadFile path cause)
-Refuses due (NoIdentity name) = due ≡ Err (NoIdentity name)
-Refuses due (NoSource uuid) = due ≡ Err (NoSource uuid)
 Refuses due (ReadFault path) = Unit {0}
-Refuses due (NotBuilt word) = due ≡ Err (NotBuilt word)
 Refuses due Memory = Unit {0}
 Refuses due SinkFault = ⊥
+Refuses due status = due ≡ Err status
 
 -- the line that is due, or the refusal
 abbrev pub Answers : Result (List ℕ) Status → Result (String Global) Status → Type 0
@@ -28,20 +24,22 @@ Answers due answer = MatchResult answer (λ line. due ≡ Ok (string_bytes line)
 
 -- the refusal that is due by words and place alone, or want of memory
 abbrev pub RefusesEarly : Option Status → Status → Type 0
-RefusesEarly early StatusOk = ⊥
 RefusesEarly early (BadWords word) = early ≡ Some (BadWords word)
-RefusesEarly early (BadFile path cause) = ⊥
-RefusesEarly early (NoIdentity name) = ⊥
-RefusesEarly early (NoSource uuid) = ⊥
-RefusesEarly early (ReadFault path) = ⊥
 RefusesEarly early (NotBuilt word) = early ≡ Some (NotBuilt word)
 RefusesEarly early Memory = Unit {0}
-RefusesEarly early SinkFault = ⊥
+RefusesEarly early _ = ⊥
+
+-- what is not built, and is told only after the words and the place
+abbrev pub late_words : List (List ℕ)
+late_words = codes "stanza" ∷ codes "offers" ∷ codes "status" ∷ codes "verify" ∷ []
+
+abbrev pub is_late_word : List ℕ → Bool
+is_late_word word = list_any (bytes_eq word) late_words
 
 -- a status that words and place alone don't give
 abbrev pub IsLate : Status → Type 0
 IsLate (BadWords word) = ⊥
-IsLate (NotBuilt word) = word ≡ codes "stanza"
+IsLate (NotBuilt word) = is_late_word word ≡ true
 IsLate _ = Unit {0}
 
 -- over a store that may not tell its files: an early refusal comes exactly where it is due

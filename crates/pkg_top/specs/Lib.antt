@@ -1,6 +1,10 @@
 pub mod Lines
+pub mod Pieces
 pub mod Words
 pub mod Import
+pub mod OffersDue
+pub mod StatusDue
+pub mod VerifyDue
 pub mod Due
 pub mod Answers
 pub mod Seen

@@ -1,5 +1,8 @@
 -- The place that the texts of an environment give. (own rule)
-use Rattle.std.specs.Prelude.{◌≡◌, ℕ, ◌==◌, if◌then◌else◌, List, [], ◌∷◌, ◌++◌, length, codes, Option, Some, None, IsSome, IsOk, Result, Ok, Err, MatchResult}
+use Rattle.std.specs.Prelude.{◌≡◌, ℕ, ◌==◌, if◌then◌else◌, List, [], ◌∷◌, ◌++◌, length, codes, Option, Some, None, IsOk, Result, Ok, Err, MatchResult}
+use Rattle.jl_versions.specs.Meant.{version_meant}
+use Rattle.jl_versions.specs.Triple.{triple_of}
+use Rattle.jl_versions.specs.declared.version.Version.{Version}
 use Rattle.pkg_world.specs.Path.{Path, joined, pieces_at}
 use Rattle.pkg_world.specs.declared.place.Place.{Place}
 use Rattle.pkg_top.specs.declared.place.PlaceFault.{PlaceFault}
@@ -47,6 +50,24 @@ abbrev pub stdlib_from : Path → Option (List ℕ) → Placed (Option Path)
 stdlib_from cwd None = Ok None
 stdlib_from cwd (Some text) = then_placed (path_from cwd text) (λ path. Ok (Some path))
 
+abbrev pub triple_meant : Result Version ℕ → Result (List ℕ) ℕ
+triple_meant (Ok version) = Ok (triple_of version)
+triple_meant (Err place) = Err place
+
+-- the three numbers of Julia's version, or the first bad place of its text; 1.11.0 without a text
+abbrev pub julia_from : Option (List ℕ) → Result (List ℕ) ℕ
+julia_from None = Ok (1 ∷ 11 ∷ 0 ∷ [])
+julia_from (Some text) = triple_meant (version_meant text)
+
+abbrev pub RefusesJulia : Result (List ℕ) ℕ → PlaceFault → Type 0
+RefusesJulia meant (BadPath text) = ⊥
+RefusesJulia meant (BadJulia place) = meant ≡ Err place
+RefusesJulia meant Memory = Unit {0}
+
+-- the numbers that are read, or the place of the refusal, or want of memory
+abbrev pub ReadsJulia : Result (List ℕ) PlaceFault → Result (List ℕ) ℕ → Type 0
+ReadsJulia answer meant = MatchResult answer (λ julia. meant ≡ Ok julia) (RefusesJulia meant)
+
 pub record Paths : Type 0 where
   pub cwd : Path
   pub depots : List Path
@@ -72,19 +93,19 @@ RefusesPlaced meant Memory = Unit {0}
 abbrev pub Places : {S T : Type 0} → (S → T) → Result S PlaceFault → Placed T → Type 0
 Places view answer meant = MatchResult answer (λ value. meant ≡ Ok (view value)) (RefusesPlaced meant)
 
--- the place of the texts. Julia's text is not read yet: it is refused at its first byte
-pub record IsPlaceOf (place : Place) (paths : Placed Paths) (load_path project julia : Option (List ℕ)) : Type 0 where
+-- the place of the texts
+pub record IsPlaceOf (place : Place) (paths : Placed Paths) (load_path project : Option (List ℕ)) (julia : Result (List ℕ) ℕ) : Type 0 where
   pub paths_are : paths ≡ Ok (paths_of place)
   pub load_path_is : place.load_path ≡ load_path
   pub project_is : place.project ≡ project
-  pub no_julia : julia ≡ None
-  pub default_julia : place.julia ≡ 1 ∷ 11 ∷ 0 ∷ []
+  pub julia_is : julia ≡ Ok place.julia
 
-abbrev pub RefusesPlace : Placed Paths → Option (List ℕ) → PlaceFault → Type 0
+-- a path is refused first, and Julia's text only where all paths are good
+abbrev pub RefusesPlace : Placed Paths → Result (List ℕ) ℕ → PlaceFault → Type 0
 RefusesPlace paths julia (BadPath text) = paths ≡ Err text
-RefusesPlace paths julia (BadJulia place) = IsOk paths × IsSome julia × (place ≡ 0)
+RefusesPlace paths julia (BadJulia place) = IsOk paths × (julia ≡ Err place)
 RefusesPlace paths julia Memory = Unit {0}
 
-abbrev pub GivesPlace : Result Place PlaceFault → Placed Paths → Option (List ℕ) → Option (List ℕ) → Option (List ℕ) → Type 0
+abbrev pub GivesPlace : Result Place PlaceFault → Placed Paths → Option (List ℕ) → Option (List ℕ) → Result (List ℕ) ℕ → Type 0
 GivesPlace answer paths load_path project julia =
     MatchResult answer (λ place. IsPlaceOf place paths load_path project julia) (RefusesPlace paths julia)

@@ -2,13 +2,20 @@
 use Rattle.std.specs.Prelude.{ℕ, Bool, true, false, not, ◌==◌, ◌&&◌, ◌||◌, if◌then◌else◌, List, [], ◌∷◌, ◌++◌, length, codes, Option, Some, None, option_map}
 use Rattle.std.specs.List.{list_all, list_any, starts_with}
 use Rattle.std.specs.Str.{bytes_eq}
-
-abbrev pub Word : Type 0
-Word = List ℕ
+use Rattle.std.specs.Option.{option_and_then}
+use Rattle.pkg_top.specs.declared.pieces.Piece.{Piece}
+use Rattle.pkg_top.specs.declared.pieces.Piece.TheVariants.{Operand, Flag, Value}
+use Rattle.pkg_top.specs.Pieces.{Word, pieces}
 
 pub data Asked : Type 0 where
   -- `which` of a name
   which : Word → Asked
+  -- `offers` of a name
+  offers : Word → Asked
+  -- `status`, of every stanza or of the dependencies alone
+  status : Bool → Asked
+  -- `verify` of a name, with a list of paths where one is given
+  verify : Word → Option Word → Asked
   -- words that break the rules, with the command word that is told
   refused_words : Word → Asked
   -- a command or an option that this version does not have yet
@@ -18,55 +25,90 @@ pub data Asked : Type 0 where
 abbrev pub is_name : Word → Bool
 is_name word = not (length word == 0) && list_all (λ b. not (b == 47 || (b == 61 || (b == 64 || b == 32)))) word
 
--- a word that begins with a hyphen and is more than that
-abbrev pub is_switch : Word → Bool
-is_switch word = starts_with (λ a b. a == b) word (codes "-") && not (bytes_eq word (codes "-"))
+abbrev pub name_of : Piece → Option Word
+name_of (Operand word) = if is_name word then Some word else None
+name_of Flag = None
+name_of (Value text) = None
 
--- the positional words: all but one `--`, behind which every word is positional; None where another switch stands
-abbrev pub operands : List Word → Option (List Word)
-operands [] = Some []
-operands (word ∷ more) =
-    if bytes_eq word (codes "--") then Some more
-    else if is_switch word then None
-    else option_map (λ rest. word ∷ rest) (operands more)
+abbrev pub value_of : Piece → Option Word
+value_of (Operand word) = None
+value_of Flag = None
+value_of (Value text) = Some text
+
+abbrev pub flag_of : Piece → Option Bool
+flag_of (Operand word) = None
+flag_of Flag = Some true
+flag_of (Value text) = None
+
+-- exactly one name
+abbrev pub one_name : List Piece → Option Word
+one_name [] = None
+one_name (piece ∷ []) = name_of piece
+one_name (piece ∷ next ∷ more) = None
+
+-- the flag, at most once
+abbrev pub one_flag : List Piece → Option Bool
+one_flag [] = Some false
+one_flag (piece ∷ []) = flag_of piece
+one_flag (piece ∷ next ∷ more) = None
+
+abbrev pub name_with : Piece → Piece → Option Asked
+name_with named valued = option_and_then (λ name. option_map (λ value. verify name (Some value)) (value_of valued)) (name_of named)
+
+abbrev pub or_asked : Option Asked → Option Asked → Option Asked
+or_asked (Some asked) other = Some asked
+or_asked None other = other
+
+-- exactly one name, and before or behind it the value, at most once
+abbrev pub name_and_value : List Piece → Option Asked
+name_and_value [] = None
+name_and_value (piece ∷ []) = option_map (λ name. verify name None) (name_of piece)
+name_and_value (first ∷ second ∷ []) = or_asked (name_with first second) (name_with second first)
+name_and_value (first ∷ second ∷ third ∷ more) = None
+
+-- what a built command is asked; None where its words break the rules, or the command is no built one
+abbrev pub built_words : Word → List Word → Option Asked
+built_words command rest =
+    if bytes_eq command (codes "which") then option_map which (option_and_then one_name (pieces None None false rest))
+    else if bytes_eq command (codes "offers") then option_map offers (option_and_then one_name (pieces None None false rest))
+    else if bytes_eq command (codes "status") then option_map status (option_and_then one_flag (pieces None (Some (codes "--all")) false rest))
+    else if bytes_eq command (codes "verify") then option_and_then name_and_value (pieces (Some (codes "--exec")) None false rest)
+    else None
 
 -- the option itself, or it with a value behind `=`
 abbrev pub is_option : Word → Word → Bool
 is_option option word = bytes_eq word option || starts_with (λ a b. a == b) word (option ++ codes "=")
 
--- an option of `which` that is not built
-abbrev pub unbuilt_option : Word → Option Word
-unbuilt_option word =
-    if is_option (codes "--from") word then Some (codes "--from")
-    else if is_option (codes "--ext") word then Some (codes "--ext")
+-- an option of a command that is not built
+abbrev pub unbuilt_option : Word → Word → Option Word
+unbuilt_option command word =
+    if bytes_eq command (codes "which") && is_option (codes "--from") word then Some (codes "--from")
+    else if bytes_eq command (codes "which") && is_option (codes "--ext") word then Some (codes "--ext")
+    else if bytes_eq command (codes "status") && is_option (codes "--extensions") word then Some (codes "--extensions")
     else None
 
 abbrev pub or_next : Option Word → Option Word → Option Word
 or_next (Some option) next = Some option
 or_next None next = next
 
-abbrev pub first_unbuilt : List Word → Option Word
-first_unbuilt [] = None
-first_unbuilt (word ∷ more) = or_next (unbuilt_option word) (first_unbuilt more)
-
--- exactly one name
-abbrev pub one_name : Option (List Word) → Asked
-one_name None = refused_words (codes "which")
-one_name (Some []) = refused_words (codes "which")
-one_name (Some (word ∷ [])) = if is_name word then which word else refused_words (codes "which")
-one_name (Some (word ∷ next ∷ more)) = refused_words (codes "which")
-
-abbrev pub which_or : Option Word → Asked → Asked
-which_or (Some option) rest = not_built option
-which_or None rest = rest
+abbrev pub first_unbuilt : Word → List Word → Option Word
+first_unbuilt command [] = None
+first_unbuilt command (word ∷ more) = or_next (unbuilt_option command word) (first_unbuilt command more)
 
 -- the commands that later versions have
 abbrev pub later_commands : List Word
-later_commands = codes "offers" ∷ codes "resolve" ∷ codes "check" ∷ codes "status" ∷ codes "add" ∷ codes "rm" ∷ codes "pin" ∷ codes "free" ∷ codes "develop" ∷ codes "verify" ∷ codes "make" ∷ []
+later_commands = codes "resolve" ∷ codes "check" ∷ codes "add" ∷ codes "rm" ∷ codes "pin" ∷ codes "free" ∷ codes "develop" ∷ codes "make" ∷ []
+
+abbrev pub or_refused : Word → Option Asked → Asked
+or_refused command (Some asked) = asked
+or_refused command None = refused_words command
+
+abbrev pub or_unbuilt : Option Word → Asked → Asked
+or_unbuilt (Some option) asked = not_built option
+or_unbuilt None asked = asked
 
 abbrev pub asked : List Word → Asked
 asked [] = refused_words (codes "-")
 asked (command ∷ rest) =
-    if bytes_eq command (codes "which") then which_or (first_unbuilt rest) (one_name (operands rest))
-    else if list_any (λ later. bytes_eq command later) later_commands then not_built command
-    else refused_words command
+    if list_any (λ later. bytes_eq command later) later_commands then not_built command
+    else or_unbuilt (first_unbuilt command rest) (or_refused command (built_words command rest))

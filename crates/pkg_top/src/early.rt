@@ -1,27 +1,28 @@
 //! What is refused by words and place alone.
-ghost use Rattle.std.specs.Prelude.{◌≡◌, Some, IfErr};
+ghost use Rattle.std.specs.Prelude.{◌≡◌, Some, Err, true, IfErr};
 ghost use Rattle.std.specs.Option.{option_copied};
 ghost use Rattle.pkg_top.specs.Due as spec;
 ghost use Rattle.pkg_top.specs.Seen.{AsksFor, texts};
-ghost use Rattle.pkg_top.specs.Answers.{RefusesEarly, IsUnprinted};
+ghost use Rattle.pkg_top.specs.Answers.{Refuses, RefusesEarly, NoFault, IsLate, IsUnprinted, is_late_word};
 
 use crate::status::Status;
 use crate::words::{Asked, read_words};
-use pkg_world::{Name, Place, Text};
+use pkg_world::{Place, Text};
 use std::alloc::Global;
 
-/// The name that `which` is asked for, or what is refused by words and place alone.
-pub(crate) fn asked_name(alloc: Global, words: &[String], place: &Place) -> Result<Name, Status>
+/// What the words ask for, or what is refused by words and place alone.
+pub(crate) fn asked_for(alloc: Global, words: &[String], place: &Place) -> Result<Asked, Status>
     ensures asked { AsksFor place.now (texts words.now) result }
     ensures unprinted { IfErr result IsUnprinted }
 {
     match read_words(alloc, words) {
-        Ok(Asked::Which(name)) => match unbuilt_place(place) {
-            None => Ok(name),
+        Ok(Asked::Which(name)) => match unbuilt_load_path(place) {
+            None => Ok(Asked::Which(name)),
             Some(word) => Err(not_built(alloc, word)),
         },
         Ok(Asked::BadWords(word)) => Err(Status::BadWords(word)),
         Ok(Asked::NotBuilt(word)) => Err(Status::NotBuilt(word)),
+        Ok(asked) => Ok(asked),
         Err(_) => Err(Status::Memory),
     }
 }
@@ -36,22 +37,21 @@ fn not_built(alloc: Global, word: &str) -> Status
     }
 }
 
-/// What of the place is not built yet: a project text that begins with an at sign, a load path.
-fn unbuilt_place(place: &Place) -> Option<&'static str>
-    ensures { option_copied result ≡ spec.unbuilt_place place.now }
+/// The refusal of what is not built, after words and place.
+pub(crate) fn not_built_late(alloc: Global, word: &str) -> Status
+    requires { is_late_word word.now ≡ true }
+    ensures refusal { Refuses (Err (Status.NotBuilt word.now)) result }
+    ensures late { IsLate result }
+    ensures unprinted { IsUnprinted result }
+    ensures fault { NoFault result }
 {
-    match &place.project {
-        Some(text) => {
-            if text.as_str().as_bytes().starts_with(b"@") {
-                Some("project")
-            } else {
-                unbuilt_load_path(place)
-            }
-        }
-        None => unbuilt_load_path(place),
+    match Text::of(alloc, word) {
+        Ok(word) => Status::NotBuilt(word),
+        Err(_) => Status::Memory,
     }
 }
 
+/// A load path is not built yet.
 fn unbuilt_load_path(place: &Place) -> Option<&'static str>
     ensures { option_copied result ≡ spec.unbuilt_load_path place.now.load_path }
 {

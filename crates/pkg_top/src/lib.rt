@@ -1,15 +1,20 @@
 //! The top call: what a command of jlpkg answers, from its words, its place and the files.
 #![tactic(auto)]
 
+mod cause_line;
 mod early;
+mod offers;
+mod pieces;
 mod place;
 mod status;
+mod status_lines;
 #[cfg(test)]
 mod tests;
 mod top;
+mod verify;
 mod which;
 mod words;
 
 pub use place::{PlaceFault, place_from};
-pub use status::{Ended, Status, Told};
+pub use status::{Difference, Ended, Status, Told};
 pub use top::run;

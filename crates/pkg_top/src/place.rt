@@ -1,10 +1,12 @@
 //! The place of a command, from the texts of its environment.
 ghost use Rattle.std.specs.Prelude.{◌≡◌, IfOk};
 ghost use Rattle.std.specs.Option.{option_copied};
-ghost use Rattle.pkg_top.specs.Placing.{Places, paths_from, paths_of, path_from, depots_from as depots_meant, depots_of, home_depot, stdlib_from as stdlib_meant, GivesPlace};
+ghost use Rattle.pkg_top.specs.Placing.{Places, paths_from, paths_of, path_from, depots_from as depots_meant, depots_of, home_depot, stdlib_from as stdlib_meant, julia_from as julia_meant, triple_meant, ReadsJulia, GivesPlace};
+ghost use Rattle.jl_versions.specs.Meant.{version_meant};
 ghost use Rattle.pkg_world.specs.Path.{pieces_at};
 ghost use Rattle.pkg_top.specs.PlaceViews.{items_of, itself, PushesDepot};
 
+use jl_versions::{Version, VersionFault};
 use pkg_world::{Listed, NormPath, NormPaths, PathFault, Place, Text, first_piece};
 use std::alloc::{AllocError, Global};
 use thiserror::Error;
@@ -15,7 +17,7 @@ pub enum PlaceFault {
     /// This text is no path: it rises above the root.
     #[error("a text is no path")]
     BadPath(Text),
-    /// Julia's text is no version, from this byte on.
+    /// Julia's text is no version; the place is the length of its longest front that begins one.
     #[error("no version of Julia from byte {0} on")]
     BadJulia(u64),
     #[error("no memory")]
@@ -36,8 +38,11 @@ impl From<AllocError> for PlaceFault {
 /// pieces are dropped; without one `.julia` in the home folder, and without both none), the load path and the project
 /// as they are, the folder of the standard libraries, the paths from the current folder.
 ///
-/// Errors: BadPath with the first text that rises above the root; after the paths BadJulia(0) where Julia's text is
-/// handed in, which this version does not read yet; want of memory.
+/// Julia's version is that of Julia's text, its three numbers alone; 1.11.0 where none is handed in.
+///
+/// Errors: BadPath with the first text that rises above the root; after the paths BadJulia where Julia's text is no
+/// version text (Julia manual, Version Number Literals), with the length of its longest front that begins one; want of
+/// memory.
 pub fn place_from(
     alloc: Global,
     cwd: &str,
@@ -49,22 +54,40 @@ pub fn place_from(
     julia: Option<&str>,
 ) -> Result<Place, PlaceFault>
     ensures { GivesPlace result (paths_from cwd.now (option_copied home.entry) (option_copied depots.entry) (option_copied stdlib.entry))
-        (option_copied load_path.entry) (option_copied project.entry) (option_copied julia.entry) }
+        (option_copied load_path.entry) (option_copied project.entry) (julia_meant (option_copied julia.entry)) }
 {
     let cwd = path_at(alloc, &NormPath::root(alloc), cwd)?;
     let depots = depots_from(alloc, &cwd, home, depots)?;
     let stdlib = stdlib_from(alloc, &cwd, stdlib)?;
-    if julia.is_some() {
-        return Err(PlaceFault::BadJulia(0));
-    }
+    let julia = julia_from(alloc, julia)?;
     Ok(Place {
         cwd,
         depots,
         load_path: text_of(alloc, load_path)?,
         project: text_of(alloc, project)?,
         stdlib,
-        julia: [1, 11, 0],
+        julia,
     })
+}
+
+/// The three numbers of Julia's version.
+fn julia_from(alloc: Global, text: Option<&str>) -> Result<[u32; 3], PlaceFault>
+    ensures { ReadsJulia result (julia_meant (option_copied text.entry)) }
+{
+    match text {
+        Some(text) => triple_at(alloc, text),
+        None => Ok([1, 11, 0]),
+    }
+}
+
+fn triple_at(alloc: Global, text: &str) -> Result<[u32; 3], PlaceFault>
+    ensures { ReadsJulia result (triple_meant (version_meant text.now)) }
+{
+    match Version::read(alloc, text) {
+        Ok(version) => Ok(version.triple()),
+        Err(VersionFault::BadVersion(place)) => Err(PlaceFault::BadJulia(place)),
+        Err(VersionFault::Memory) => Err(PlaceFault::Memory),
+    }
 }
 
 fn text_of(alloc: Global, text: Option<&str>) -> Result<Option<Text>, AllocError>

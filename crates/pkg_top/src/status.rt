@@ -1,10 +1,13 @@
 //! How a command ends.
-ghost use Rattle.std.specs.Prelude.{◌≡◌, ◌++◌, ◌∷◌, [], codes, IfOk, string_bytes};
+ghost use Rattle.std.specs.Prelude.{◌≡◌, ◌++◌, ◌∷◌, [], Some, codes, IfOk, string_bytes};
+ghost use Rattle.std.specs.Fmt.{decimal};
 ghost use Rattle.pkg_world.specs.Path.{path_text};
-ghost use Rattle.pkg_top.specs.Lines.{code_of, status_line as line_of, error_line as line_with, cause_text as text_of_cause, uuid_text as text_of_uuid, found_line as line_of_found};
+ghost use Rattle.pkg_world.specs.TreeIds.{tree_text};
+ghost use Rattle.pkg_top.specs.Lines.{code_of, status_line as line_of, error_line as line_with, cause_text as text_of_cause, uuid_text as text_of_uuid, found_line as line_of_found, limit_text as text_of_limit, difference_text as text_of_difference, two};
 
+use crate::cause_line::{cause_text, number_text, plain_uuid, two_words};
 use env_maps::Id;
-use pkg_world::{Cause, Name, NormPath, Text};
+use pkg_world::{Cause, LimitKind, Name, NormPath, Text, TreeId};
 use std::alloc::{AllocError, Global};
 use uuid::Uuid;
 
@@ -26,6 +29,13 @@ pub enum Told {
     Memory,
 }
 
+/// What is not the same.
+#[derive(Debug, Drop)]
+pub enum Difference {
+    /// The tree that a stanza names, and that of the installed folder.
+    Trees(TreeId, TreeId),
+}
+
 /// The status of a command.
 #[derive(Debug, Drop)]
 pub enum Status {
@@ -33,6 +43,8 @@ pub enum Status {
     Ok,
     /// The words break the rules: the command word, or `-` where there is none.
     BadWords(Text),
+    /// A file that the command must have is not there.
+    MissingFile(NormPath),
     /// The bytes of this file are refused.
     BadFile(NormPath, Cause),
     /// No package has this name here.
@@ -41,6 +53,16 @@ pub enum Status {
     NoSource(Option<Uuid>),
     /// The outside failed at this path.
     ReadFault(NormPath),
+    /// No registry lists this name.
+    UnknownName(Name),
+    /// A name that two packages have, with their identifiers, the lesser first.
+    AmbiguousName(Uuid, Uuid),
+    /// A count passes this limit.
+    Limit(LimitKind, u64),
+    /// What was compared is not the same.
+    Differs(Difference),
+    /// No stanza of the manifest has this name.
+    NotInManifest(Name),
     /// This version does not have that yet.
     NotBuilt(Text),
     /// There was no memory.
@@ -57,10 +79,16 @@ impl Status {
         match self {
             Status::Ok => 0,
             Status::BadWords(_) => 2,
+            Status::MissingFile(_) => 3,
             Status::BadFile(..) => 3,
             Status::NoIdentity(_) => 4,
             Status::NoSource(_) => 5,
             Status::ReadFault(_) => 8,
+            Status::UnknownName(_) => 10,
+            Status::AmbiguousName(..) => 11,
+            Status::Limit(..) => 12,
+            Status::Differs(_) => 13,
+            Status::NotInManifest(_) => 14,
             Status::Memory => 15,
             Status::SinkFault => 16,
             Status::NotBuilt(_) => 17,
@@ -85,10 +113,16 @@ pub(crate) fn status_line(alloc: Global, status: &Status) -> Result<String, Allo
     match status {
         Status::Ok => Ok(String::new(alloc)),
         Status::BadWords(word) => error_line(alloc, "2 BadWords", word.as_str()),
+        Status::MissingFile(path) => error_line(alloc, "3 MissingFile", path.as_str()),
         Status::BadFile(path, cause) => bad_file_line(alloc, path, cause),
         Status::NoIdentity(name) => error_line(alloc, "4 NoIdentity", name.as_str()),
         Status::NoSource(uuid) => no_source_line(alloc, uuid),
         Status::ReadFault(path) => error_line(alloc, "8 ReadFault", path.as_str()),
+        Status::UnknownName(name) => error_line(alloc, "10 UnknownName", name.as_str()),
+        Status::AmbiguousName(first, second) => ambiguous_line(alloc, first, second),
+        Status::Limit(kind, count) => limit_line(alloc, kind, *count),
+        Status::Differs(difference) => differs_line(alloc, difference),
+        Status::NotInManifest(name) => error_line(alloc, "14 NotInManifest", name.as_str()),
         Status::NotBuilt(word) => error_line(alloc, "17 NotBuilt", word.as_str()),
         Status::Memory => String::from_str(alloc, "error 15 Memory\n"),
         Status::SinkFault => String::from_str(alloc, "error 16 SinkFault\n"),
@@ -102,28 +136,67 @@ fn error_line(alloc: Global, head: &str, carried: &str) -> Result<String, AllocE
 }
 
 fn bad_file_line(alloc: Global, path: &NormPath, cause: &Cause) -> Result<String, AllocError>
-    ensures { IfOk result (λ line. string_bytes line ≡ line_with (codes "3 BadFile") (path_text path.now ++ (codes " " ++ text_of_cause cause.now))) }
+    ensures { IfOk result (λ line. string_bytes line ≡ line_with (codes "3 BadFile") (two (path_text path.now) (text_of_cause cause.now))) }
 {
-    let mut carried = String::from_str(alloc, path.as_str())?;
-    carried.push(' ')?;
-    carried.push_str(cause_text(alloc, cause)?.as_str())?;
-    error_line(alloc, "3 BadFile", carried.as_str())
+    let cause = cause_text(alloc, cause)?;
+    two_carried(alloc, "3 BadFile", path.as_str(), cause.as_str())
 }
 
-fn cause_text(alloc: Global, cause: &Cause) -> Result<String, AllocError>
-    ensures { IfOk result (λ text. string_bytes text ≡ text_of_cause cause.now) }
+/// The line of a status that carries two values.
+fn two_carried(
+    alloc: Global,
+    head: &str,
+    first: &str,
+    second: &str,
+) -> Result<String, AllocError>
+    ensures { IfOk result (λ line. string_bytes line ≡ line_with head.now (two first.now second.now)) }
 {
-    match cause {
-        Cause::BadToml => String::from_str(alloc, "BadToml"),
-        Cause::Deep => String::from_str(alloc, "Deep"),
-        Cause::BadShape(keys) => bad_shape_text(alloc, keys.as_str()),
+    let carried = two_words(alloc, first, second)?;
+    error_line(alloc, head, carried.as_str())
+}
+
+fn ambiguous_line(alloc: Global, first: &Uuid, second: &Uuid) -> Result<String, AllocError>
+    ensures { IfOk result (λ line. string_bytes line ≡ line_with (codes "11 AmbiguousName") (two (text_of_uuid (Some first.now)) (text_of_uuid (Some second.now)))) }
+{
+    let first = plain_uuid(alloc, first)?;
+    let second = plain_uuid(alloc, second)?;
+    two_carried(alloc, "11 AmbiguousName", first.as_str(), second.as_str())
+}
+
+fn limit_line(alloc: Global, kind: &LimitKind, count: u64) -> Result<String, AllocError>
+    ensures { IfOk result (λ line. string_bytes line ≡ line_with (codes "12 Limit") (two (text_of_limit kind.now) (decimal count))) }
+{
+    let count = number_text(alloc, count)?;
+    two_carried(alloc, "12 Limit", limit_text(kind), count.as_str())
+}
+
+fn limit_text(kind: &LimitKind) -> &'static str
+    ensures { result.now ≡ text_of_limit kind.now }
+{
+    match kind {
+        LimitKind::Packages => "Packages",
+        LimitKind::States => "States",
+        LimitKind::Bits => "Bits",
+        LimitKind::Cells => "Cells",
+        LimitKind::TreeDepth => "TreeDepth",
+        LimitKind::TreeFiles => "TreeFiles",
     }
 }
 
-fn bad_shape_text(alloc: Global, keys: &str) -> Result<String, AllocError>
-    ensures { IfOk result (λ text. string_bytes text ≡ codes "BadShape " ++ keys.now) }
+fn differs_line(alloc: Global, difference: &Difference) -> Result<String, AllocError>
+    ensures { IfOk result (λ line. string_bytes line ≡ line_with (codes "13 Differs") (text_of_difference difference.now)) }
 {
-    format!(in alloc; "BadShape {keys}")
+    match difference {
+        Difference::Trees(wanted, found) => trees_line(alloc, wanted, found),
+    }
+}
+
+fn trees_line(alloc: Global, wanted: &TreeId, found: &TreeId) -> Result<String, AllocError>
+    ensures { IfOk result (λ line. string_bytes line ≡ line_with (codes "13 Differs") (two (tree_text wanted.now) (tree_text found.now))) }
+{
+    let wanted = wanted.text(alloc)?;
+    let found = found.text(alloc)?;
+    two_carried(alloc, "13 Differs", wanted.as_str(), found.as_str())
 }
 
 fn no_source_line(alloc: Global, uuid: &Option<Uuid>) -> Result<String, AllocError>
@@ -138,10 +211,7 @@ fn uuid_text(alloc: Global, uuid: &Option<Uuid>) -> Result<String, AllocError>
     ensures { IfOk result (λ text. string_bytes text ≡ text_of_uuid uuid.now) }
 {
     match uuid {
-        Some(uuid) => {
-            let mut buffer = Uuid::encode_buffer();
-            String::from_str(alloc, uuid.hyphenated().encode_lower(&mut buffer))
-        }
+        Some(uuid) => plain_uuid(alloc, uuid),
         None => String::from_str(alloc, "-"),
     }
 }

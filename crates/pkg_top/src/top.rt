@@ -5,17 +5,22 @@ ghost use Rattle.pkg_top.specs.Lines.{status_line as line_of};
 ghost use Rattle.pkg_top.specs.Seen.{texts};
 ghost use Rattle.pkg_top.specs.Answers.{Answers, AnswersTimely, IsTimely, ReadFaultRose, SinkFaultRose, Prints, PrintsOnlyAtOk, IsPrinted, IsRefusal, IsUnprinted, Tells, TellsLine};
 
-use crate::early::asked_name;
+use crate::early::asked_for;
+use crate::offers::offers;
 use crate::status::{Ended, Status, Told, status_line};
+use crate::status_lines::status_lines;
+use crate::verify::verify;
 use crate::which::which;
+use crate::words::Asked;
 use pkg_world::{Place, PutAnswer, Sink, Store};
 use std::alloc::Global;
 
 /// Runs one command: the words after the program's name, at a place, over a store. At Ok the answer goes to `out` in
 /// one piece; at every other status one line goes to `err`, and `out` gets nothing (a prefix at SinkFault).
 ///
-/// Where the store tells its files, status and line are those that the definitions give for them: `which` answers the
-/// import of a name from the top level over the active project (Julia manual, Code Loading). No file is replaced.
+/// Where the store tells its files, status and line are those that the definitions give for them, by the command: `which`
+/// answers the import of a name from the top level over the active project (Julia manual, Code Loading); `offers`,
+/// `status` and `verify` are not built yet. No file is replaced.
 /// ReadFault and SinkFault come only where the store's and the sink's counts of faults rose, and want of memory is free.
 pub fn run<S: Store, O: Sink, E: Sink>(
     alloc: Global,
@@ -58,8 +63,13 @@ fn answer<S: Store>(
     ensures later { S.read_faults store.old ≤ S.read_faults store.new }
     ensures other { S.write_faults store.new ≡ S.write_faults store.old }
 {
-    match asked_name(alloc, words, place) {
-        Ok(name) => which(alloc, &name, place, store),
+    match asked_for(alloc, words, place) {
+        Ok(Asked::Which(name)) => which(alloc, &name, place, store),
+        Ok(Asked::Offers(name)) => offers(alloc, &name, place, store),
+        Ok(Asked::Status(all)) => status_lines(alloc, all, place, store),
+        Ok(Asked::Verify(name, list)) => verify(alloc, &name, &list, place, store),
+        Ok(Asked::BadWords(_)) => unreachable!(),
+        Ok(Asked::NotBuilt(_)) => unreachable!(),
         Err(status) => Err(status),
     }
 }

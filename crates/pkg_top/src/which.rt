@@ -1,5 +1,5 @@
 //! `which`: the identity and the entry file of a name over the active project.
-ghost use Rattle.std.specs.Prelude.{◌≡◌, ◌≤◌, Err, Some, codes, IfSome, IfOk, IfErr, string_bytes};
+ghost use Rattle.std.specs.Prelude.{◌≡◌, ◌≤◌, Err, Some, IfSome, IfOk, IfErr, string_bytes};
 ghost use Rattle.env_maps.specs.Active.{active_file};
 ghost use Rattle.env_maps.specs.Maps.{path_of, env_in};
 ghost use Rattle.pkg_top.specs.Import.{by_path, by_identity, import as import_meant};
@@ -7,9 +7,10 @@ ghost use Rattle.pkg_top.specs.Due.{which_due, which_of, told_import};
 ghost use Rattle.pkg_top.specs.Lines.{found_line as line_of_found};
 ghost use Rattle.pkg_top.specs.Answers.{Answers, Refuses, ReadFaultRose, NoFault, IsLate, IsUnprinted};
 
+use crate::early::not_built_late;
 use crate::status::{Status, found_line};
 use env_maps::{Context, EnvFault, Id, ProjectEnv, active_project};
-use pkg_world::{Duplicate, KindAnswer, Name, NormPath, Place, Store, Text};
+use pkg_world::{Duplicate, KindAnswer, Name, NormPath, Place, Store};
 use std::alloc::Global;
 
 /// The line of `which`, or its refusal: the import of a name from the top level over the active project alone.
@@ -110,21 +111,9 @@ fn import_built<S: Store>(
     ensures other { S.write_faults store.new ≡ S.write_faults store.old }
 {
     if env.is_unbuilt(id) {
-        Err(unbuilt_stanza(alloc))
+        Err(not_built_late(alloc, "stanza"))
     } else {
         import_identity(alloc, name, env, id, store)
-    }
-}
-
-fn unbuilt_stanza(alloc: Global) -> Status
-    ensures refusal { Refuses (Err (Status.NotBuilt (codes "stanza"))) result }
-    ensures late { IsLate result }
-    ensures unprinted { IsUnprinted result }
-    ensures fault { NoFault result }
-{
-    match Text::of(alloc, "stanza") {
-        Ok(word) => Status::NotBuilt(word),
-        Err(_) => Status::Memory,
     }
 }
 

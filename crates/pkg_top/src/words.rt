@@ -1,12 +1,15 @@
 //! What the words of a command mean.
-ghost use Rattle.std.specs.Prelude.{◌≡◌, ◌==◌, ◌||◌, not, codes, IfOk, OnOk, ◌++◌, ◌∷◌, option_map, map, string_bytes};
+ghost use Rattle.std.specs.Prelude.{◌≡◌, ◌==◌, ◌||◌, not, false, None, codes, IfOk, ◌∷◌, option_map};
 ghost use Rattle.std.specs.List.{list_all, list_any};
-ghost use Rattle.std.specs.Option.{option_copied};
+ghost use Rattle.std.specs.Option.{option_copied, option_and_then};
 ghost use Rattle.std.specs.Str.{bytes_eq};
 ghost use Rattle.pkg_top.specs.Words as spec;
+ghost use Rattle.pkg_top.specs.Pieces.{pieces as pieces_meant};
+ghost use Rattle.pkg_top.specs.declared.pieces.Piece.TheVariants.{Operand};
 ghost use Rattle.pkg_top.specs.Seen.{asked_of, texts};
 
-use pkg_world::{Name, Text};
+use crate::pieces::{Piece, read_pieces};
+use pkg_world::{Duplicate, Name, Text};
 use std::alloc::{AllocError, Global};
 
 /// What words ask for.
@@ -14,6 +17,12 @@ use std::alloc::{AllocError, Global};
 pub(crate) enum Asked {
     /// `which` of a name.
     Which(Name),
+    /// `offers` of a name.
+    Offers(Name),
+    /// `status`, of every stanza or of the dependencies alone.
+    Status(bool),
+    /// `verify` of a name, with a list of paths where one is given.
+    Verify(Name, Option<Text>),
     /// The words break the rules: the command word, or `-` where there is none.
     BadWords(Text),
     /// A command or an option that this version does not have yet.
@@ -33,129 +42,234 @@ pub(crate) fn read_words(alloc: Global, words: &[String]) -> Result<Asked, Alloc
 fn command_words(alloc: Global, command: &str, rest: &[String]) -> Result<Asked, AllocError>
     ensures { IfOk result (λ asked. asked_of asked ≡ spec.asked (command.now ∷ texts rest.now)) }
 {
-    if command == "which" {
-        return which_words(alloc, rest);
-    }
     if is_later_command(command) {
         return Ok(Asked::NotBuilt(Text::of(alloc, command)?));
     }
-    Ok(Asked::BadWords(Text::of(alloc, command)?))
+    match first_unbuilt(command, rest) {
+        Some(option) => Ok(Asked::NotBuilt(Text::of(alloc, option)?)),
+        None => words_or_refused(alloc, command, rest),
+    }
+}
+
+fn words_or_refused(alloc: Global, command: &str, rest: &[String]) -> Result<Asked, AllocError>
+    ensures { IfOk result (λ asked. asked_of asked ≡ spec.or_refused command.now (spec.built_words command.now (texts rest.now))) }
+{
+    match built_words(alloc, command, rest)? {
+        Some(asked) => Ok(asked),
+        None => Ok(Asked::BadWords(Text::of(alloc, command)?)),
+    }
 }
 
 /// Whether a later version has this command.
 fn is_later_command(command: &str) -> bool
     ensures { result ≡ list_any (λ later. bytes_eq command.now later) spec.later_commands }
 {
-    is_reading_command(command) || is_writing_command(command)
-}
-
-fn is_reading_command(command: &str) -> bool
-    ensures { result ≡ (bytes_eq command.now (codes "offers") || (bytes_eq command.now (codes "check") || (bytes_eq command.now (codes "status") || (bytes_eq command.now (codes "verify") || bytes_eq command.now (codes "make"))))) }
-{
-    command == "offers"
-        || command == "check"
-        || command == "status"
-        || command == "verify"
-        || command == "make"
-}
-
-fn is_writing_command(command: &str) -> bool
-    ensures { result ≡ (bytes_eq command.now (codes "resolve") || (bytes_eq command.now (codes "add") || (bytes_eq command.now (codes "rm") || (bytes_eq command.now (codes "pin") || (bytes_eq command.now (codes "free") || bytes_eq command.now (codes "develop")))))) }
-{
     command == "resolve"
+        || command == "check"
         || command == "add"
         || command == "rm"
         || command == "pin"
         || command == "free"
         || command == "develop"
-}
-
-/// The words after `which`.
-fn which_words(alloc: Global, rest: &[String]) -> Result<Asked, AllocError>
-    ensures { IfOk result (λ asked. asked_of asked ≡ spec.which_or (spec.first_unbuilt (texts rest.now)) (spec.one_name (spec.operands (texts rest.now)))) }
-{
-    if let Some(option) = first_unbuilt(rest) {
-        return Ok(Asked::NotBuilt(Text::of(alloc, option)?));
-    }
-    let found = operands(alloc, rest)?;
-    one_name(alloc, &found)
+        || command == "make"
 }
 
 /// The first option among the words that is not built.
-fn first_unbuilt(words: &[String]) -> Option<&'static str>
-    ensures { option_copied result ≡ spec.first_unbuilt (texts words.now) }
+fn first_unbuilt(command: &str, words: &[String]) -> Option<&'static str>
+    ensures { option_copied result ≡ spec.first_unbuilt command.now (texts words.now) }
 {
     for word in words {
-        if let Some(option) = unbuilt_option(word.as_str()) {
+        if let Some(option) = unbuilt_option(command, word.as_str()) {
             return Some(option);
         }
     }
     None
 }
 
-fn unbuilt_option(word: &str) -> Option<&'static str>
-    ensures { option_copied result ≡ spec.unbuilt_option word.now }
+fn unbuilt_option(command: &str, word: &str) -> Option<&'static str>
+    ensures { option_copied result ≡ spec.unbuilt_option command.now word.now }
 {
-    if word == "--from" || word.as_bytes().starts_with(b"--from=") {
+    if command == "which" && is_from(word) {
         Some("--from")
-    } else if word == "--ext" || word.as_bytes().starts_with(b"--ext=") {
+    } else if command == "which" && is_ext(word) {
         Some("--ext")
+    } else if command == "status" && is_extensions(word) {
+        Some("--extensions")
     } else {
         None
     }
 }
 
-/// The positional words; None where a switch stands among them.
-fn operands(alloc: Global, words: &[String]) -> Result<Option<Vec<String>>, AllocError>
-    ensures { IfOk result (λ found. option_map (λ v. texts v.items) found ≡ spec.operands (texts words.now)) }
+fn is_from(word: &str) -> bool
+    ensures { result ≡ spec.is_option (codes "--from") word.now }
 {
-    let mut found = Vec::new(alloc);
-    let mut rest = words;
-    loop {
-        match rest.split_first() {
-            None => return Ok(Some(found)),
-            Some((word, more)) => {
-                if word.as_str() == "--" {
-                    push_all(&mut found, more)?;
-                    return Ok(Some(found));
-                }
-                if is_switch(word.as_str()) {
-                    return Ok(None);
-                }
-                found.push(word.clone()?)?;
-                rest = more;
-            }
-        }
+    word == "--from" || word.as_bytes().starts_with(b"--from=")
+}
+
+fn is_ext(word: &str) -> bool
+    ensures { result ≡ spec.is_option (codes "--ext") word.now }
+{
+    word == "--ext" || word.as_bytes().starts_with(b"--ext=")
+}
+
+fn is_extensions(word: &str) -> bool
+    ensures { result ≡ spec.is_option (codes "--extensions") word.now }
+{
+    word == "--extensions" || word.as_bytes().starts_with(b"--extensions=")
+}
+
+/// What a built command is asked; None where its words break the rules, or the command is no built one.
+fn built_words(
+    alloc: Global,
+    command: &str,
+    rest: &[String],
+) -> Result<Option<Asked>, AllocError>
+    ensures { IfOk result (λ asked. option_map asked_of asked ≡ spec.built_words command.now (texts rest.now)) }
+{
+    if command == "which" {
+        return which_words(alloc, rest);
+    }
+    if command == "offers" {
+        return offers_words(alloc, rest);
+    }
+    if command == "status" {
+        return status_words(alloc, rest);
+    }
+    if command == "verify" {
+        return verify_words(alloc, rest);
+    }
+    Ok(None)
+}
+
+fn which_words(alloc: Global, rest: &[String]) -> Result<Option<Asked>, AllocError>
+    ensures { IfOk result (λ asked. option_map asked_of asked ≡ spec.built_words (codes "which") (texts rest.now)) }
+{
+    match only_name(alloc, rest)? {
+        Some(name) => Ok(Some(Asked::Which(name))),
+        None => Ok(None),
     }
 }
 
-fn push_all(found: &mut Vec<String>, words: &[String]) -> Result<(), AllocError>
-    ensures { OnOk result (texts found.new.items ≡ texts found.old.items ++ texts words.now) }
+fn offers_words(alloc: Global, rest: &[String]) -> Result<Option<Asked>, AllocError>
+    ensures { IfOk result (λ asked. option_map asked_of asked ≡ spec.built_words (codes "offers") (texts rest.now)) }
 {
-    for word in words {
-        found.push(word.clone()?)?;
+    match only_name(alloc, rest)? {
+        Some(name) => Ok(Some(Asked::Offers(name))),
+        None => Ok(None),
     }
-    Ok(())
 }
 
-/// A word that begins with a hyphen and is more than that.
-fn is_switch(word: &str) -> bool
-    ensures { result ≡ spec.is_switch word.now }
+fn status_words(alloc: Global, rest: &[String]) -> Result<Option<Asked>, AllocError>
+    ensures { IfOk result (λ asked. option_map asked_of asked ≡ spec.built_words (codes "status") (texts rest.now)) }
 {
-    word.as_bytes().starts_with(b"-") && word != "-"
+    match read_pieces(alloc, None, Some("--all"), rest)? {
+        Some(found) => Ok(status_asked(found.as_slice())),
+        None => Ok(None),
+    }
 }
 
-/// Exactly one name.
-fn one_name(alloc: Global, found: &Option<Vec<String>>) -> Result<Asked, AllocError>
-    ensures { IfOk result (λ asked. asked_of asked ≡ spec.one_name (option_map (λ v. texts v.items) found.now)) }
+fn verify_words(alloc: Global, rest: &[String]) -> Result<Option<Asked>, AllocError>
+    ensures { IfOk result (λ asked. option_map asked_of asked ≡ spec.built_words (codes "verify") (texts rest.now)) }
 {
-    if let Some(words) = found
-        && let [word] = words.as_slice()
-        && is_name(word.as_str())
-    {
-        return Ok(Asked::Which(Name::of(alloc, word.as_str())?));
+    match read_pieces(alloc, Some("--exec"), None, rest)? {
+        Some(found) => verify_asked(alloc, found.as_slice()),
+        None => Ok(None),
     }
-    Ok(Asked::BadWords(Text::of(alloc, "which")?))
+}
+
+/// Exactly one name, of a command without switches.
+fn only_name(alloc: Global, rest: &[String]) -> Result<Option<Name>, AllocError>
+    ensures { IfOk result (λ name. name ≡ option_and_then spec.one_name (pieces_meant None None false (texts rest.now))) }
+{
+    match read_pieces(alloc, None, None, rest)? {
+        Some(found) => one_name(alloc, found.as_slice()),
+        None => Ok(None),
+    }
+}
+
+fn one_name(alloc: Global, found: &[Piece]) -> Result<Option<Name>, AllocError>
+    ensures { IfOk result (λ name. name ≡ spec.one_name found.now) }
+{
+    match found {
+        [piece] => name_of(alloc, piece),
+        _ => Ok(None),
+    }
+}
+
+/// The flag, at most once.
+fn status_asked(found: &[Piece]) -> Option<Asked>
+    ensures { option_map asked_of result ≡ option_map spec.status (spec.one_flag found.now) }
+{
+    match found {
+        [] => Some(Asked::Status(false)),
+        [Piece::Flag] => Some(Asked::Status(true)),
+        _ => None,
+    }
+}
+
+/// Exactly one name, and before or behind it the value, at most once.
+fn verify_asked(alloc: Global, found: &[Piece]) -> Result<Option<Asked>, AllocError>
+    ensures { IfOk result (λ asked. option_map asked_of asked ≡ spec.name_and_value found.now) }
+{
+    match found {
+        [piece] => name_alone(alloc, piece),
+        [first, second] => in_either_order(alloc, first, second),
+        _ => Ok(None),
+    }
+}
+
+fn name_alone(alloc: Global, piece: &Piece) -> Result<Option<Asked>, AllocError>
+    ensures { IfOk result (λ asked. option_map asked_of asked ≡ option_map (λ name. spec.verify name None) (spec.name_of piece.now)) }
+{
+    match name_of(alloc, piece)? {
+        Some(name) => Ok(Some(Asked::Verify(name, None))),
+        None => Ok(None),
+    }
+}
+
+fn in_either_order(
+    alloc: Global,
+    first: &Piece,
+    second: &Piece,
+) -> Result<Option<Asked>, AllocError>
+    ensures { IfOk result (λ asked. option_map asked_of asked ≡ spec.or_asked (spec.name_with first.now second.now) (spec.name_with second.now first.now)) }
+{
+    match name_with(alloc, first, second)? {
+        Some(asked) => Ok(Some(asked)),
+        None => name_with(alloc, second, first),
+    }
+}
+
+fn name_with(alloc: Global, named: &Piece, valued: &Piece) -> Result<Option<Asked>, AllocError>
+    ensures { IfOk result (λ asked. option_map asked_of asked ≡ spec.name_with named.now valued.now) }
+{
+    let Some(name) = name_of(alloc, named)? else {
+        return Ok(None);
+    };
+    match valued {
+        Piece::Value(value) => Ok(Some(Asked::Verify(name, Some(value.copy(alloc)?)))),
+        Piece::Flag => Ok(None),
+        Piece::Operand(_) => Ok(None),
+    }
+}
+
+fn name_of(alloc: Global, piece: &Piece) -> Result<Option<Name>, AllocError>
+    ensures { IfOk result (λ name. name ≡ spec.name_of piece.now) }
+{
+    match piece {
+        Piece::Operand(word) => name_in(alloc, word.as_str()),
+        Piece::Flag => Ok(None),
+        Piece::Value(_) => Ok(None),
+    }
+}
+
+fn name_in(alloc: Global, word: &str) -> Result<Option<Name>, AllocError>
+    ensures { IfOk result (λ name. name ≡ spec.name_of (Operand word.now)) }
+{
+    if is_name(word) {
+        return Ok(Some(Name::of(alloc, word)?));
+    }
+    Ok(None)
 }
 
 /// A name: not empty, and without slash, equals sign, at sign or space.

@@ -1,0 +1,9 @@
+-- What `verify` is due to answer. It is not built yet.
+use Rattle.std.specs.Prelude.{ℕ, List, codes, Option, Result, Err}
+use Rattle.pkg_world.specs.declared.place.Place.{Place}
+use Rattle.pkg_world.specs.Tree.{Files}
+use Rattle.pkg_top.specs.declared.status.Status.{Status}
+use Rattle.pkg_top.specs.declared.status.Status.TheVariants.{NotBuilt}
+
+abbrev pub verify_due : Files → Place → List ℕ → Option (List ℕ) → Result (List ℕ) Status
+verify_due files place name list = Err (NotBuilt (codes "verify"))
