@@ -10,6 +10,9 @@ use Rattle.project_file.specs.declared.project.Project.{Project}
 use Rattle.manifest_file.specs.Said.{said as said_manifest}
 use Rattle.manifest_file.specs.Saying as manifest
 use Rattle.manifest_file.specs.declared.manifest.Manifest.{Manifest}
+use Rattle.pkg_world.specs.declared.cause.Cause.TheVariants.{BadToml, Deep, BadShape, BadVersion, SameUuid, Dangling, Unclear}
+use Rattle.manifest_file.specs.declared.fault.ManifestFault.{ManifestFault}
+use Rattle.manifest_file.specs.declared.fault.ManifestFault.TheVariants as faults
 use Rattle.env_maps.specs.declared.fault.EnvFault.{EnvFault}
 use Rattle.env_maps.specs.declared.fault.EnvFault.TheVariants.{ReadFault, BadFile, Memory}
 
@@ -69,3 +72,19 @@ abbrev pub RefusesFile : Path → Cause → EnvFault → Type 0
 RefusesFile file cause (ReadFault path) = ⊥
 RefusesFile file cause (BadFile path why) = (path ≡ file) × (why ≡ cause)
 RefusesFile file cause Memory = Unit {0}
+
+-- the refusal for a cause; without one it is want of memory
+abbrev pub RefusesBy : Path → Option Cause → EnvFault → Type 0
+RefusesBy file None fault = fault ≡ Memory
+RefusesBy file (Some cause) fault = RefusesFile file cause fault
+
+-- the cause that a manifest's fault names; want of memory names none
+abbrev pub manifest_cause : ManifestFault → Option Cause
+manifest_cause faults.BadToml = Some BadToml
+manifest_cause faults.Deep = Some Deep
+manifest_cause (faults.BadShape keys) = Some (BadShape keys)
+manifest_cause (faults.BadVersion keys place) = Some (BadVersion keys place)
+manifest_cause (faults.SameUuid id) = Some (SameUuid id)
+manifest_cause (faults.Dangling from name) = Some (Dangling from name)
+manifest_cause (faults.Unclear from name) = Some (Unclear from name)
+manifest_cause faults.Memory = None

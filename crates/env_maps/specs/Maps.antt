@@ -1,8 +1,7 @@
 -- The environment of a project and its maps (Julia manual, Code Loading): names to identities, and identities to entry paths.
-use Rattle.std.specs.Prelude.{◌≡◌, MatchOption, ℕ, Bool, true, false, not, ◌&&◌, if◌then◌else◌, List, [], ◌∷◌, ◌++◌, codes, Option, Some, None, option_map, Result, Ok, Err}
+use Rattle.std.specs.Prelude.{ℕ, Bool, true, false, not, ◌&&◌, if◌then◌else◌, List, [], ◌∷◌, ◌++◌, codes, Option, Some, None, Result, Ok, Err}
 use Rattle.std.specs.Option.{option_and_then}
 use Rattle.std.specs.Str.{bytes_eq}
-use Rattle.std.specs.Borrow.{Bor}
 use Rattle.pkg_world.specs.Path.{Path, joined, folder_of}
 use Rattle.pkg_world.specs.Tree.{Files, holds, is_file}
 use Rattle.pkg_world.specs.declared.place.Place.{Place}
@@ -18,10 +17,12 @@ use Rattle.env_maps.specs.declared.id.Id.{Id}
 use Rattle.env_maps.specs.Files.{Read, at_file, then_file, project_in, manifest_in}
 use Rattle.env_maps.specs.ManifestPath.{manifest_path}
 
--- a project, where its file is or would be, and the stanzas of its manifest with the folder from which their paths go
+-- a project: where its file is or would be, the identity of its own package, its dependencies, and the stanzas of its
+-- manifest with the folder from which their paths go
 pub record Env : Type 0 where
   pub file : Path
-  pub project : Option project.Said
+  pub own : Option Id
+  pub deps : List (List ℕ × List ℕ)
   pub folder : Path
   pub stanzas : List SaidStanza
   pub depots : List Path
@@ -51,17 +52,23 @@ abbrev pub unless_escaping : {T : Type 0} → Option (List ℕ) → T → Result
 unless_escaping None value = Ok value
 unless_escaping (Some name) value = Err (BadShape (path_keys name))
 
+-- the identity of the project's own package, where the file has both name and identifier
+abbrev pub own_of : Option (List ℕ) → Option (List ℕ) → Option Id
+own_of (Some name) (Some uuid) = Some (record { uuid = Some uuid; name = name })
+own_of (Some name) None = None
+own_of None uuid = None
+
 -- the environment of a project and the stanzas of its manifest; a stanza's path that rises above the root is refused
 abbrev pub env_of : Place → Path → project.Said → Path → manifest.Said → Read Env
 env_of place file said path found =
     at_file path (unless_escaping (first_escaping (folder_of path) found.stanzas)
-        (record { file = file; project = Some said; folder = folder_of path; stanzas = found.stanzas; depots = place.depots.items }))
+        (record { file = file; own = own_of said.name said.uuid; deps = said.deps; folder = folder_of path; stanzas = found.stanzas; depots = place.depots.items }))
 
 abbrev pub env_at : Files → Place → Path → project.Said → Path → Read Env
 env_at files place file said path = then_file (at_file path (manifest_in (holds path files))) (env_of place file said path)
 
 abbrev pub no_env : Place → Path → Env
-no_env place file = record { file = file; project = None; folder = folder_of file; stanzas = []; depots = place.depots.items }
+no_env place file = record { file = file; own = None; deps = []; folder = folder_of file; stanzas = []; depots = place.depots.items }
 
 -- a project file that isn't there gives an environment without entries, whatever manifest lies beside it
 abbrev pub env_with : Files → Place → Path → Option project.Said → Read Env
@@ -71,30 +78,6 @@ env_with files place file (Some said) = then_file (at_file file (manifest_path f
 -- the environment of a project file: the file itself, then its manifest
 abbrev pub env_in : Files → Place → Path → Read Env
 env_in files place file = then_file (at_file file (project_in (holds file files))) (env_with files place file)
-
--- the identity of the project's own package, where the file has both name and identifier
-abbrev pub own_of : Option (List ℕ) → Option (List ℕ) → Option Id
-own_of (Some name) (Some uuid) = Some (record { uuid = Some uuid; name = name })
-own_of (Some name) None = None
-own_of None uuid = None
-
-abbrev pub own_in : Option project.Said → Option Id
-own_in None = None
-own_in (Some said) = own_of said.name said.uuid
-
-abbrev pub own : Env → Option Id
-own env = own_in env.project
-
--- what is told of the own package: its name and its identifier
-abbrev pub OwnIs : Option Id → Option (Bor (List ℕ) × List ℕ) → Type 0
-OwnIs meant found = MatchOption found (meant ≡ None) (λ x. meant ≡ Some (record { uuid = Some x.1; name = x.0.now }))
-
-abbrev pub OwnGives : Env → Option (Bor (List ℕ) × List ℕ) → Type 0
-OwnGives env found = OwnIs (own env) found
-
-abbrev pub deps_in : Option project.Said → List (List ℕ × List ℕ)
-deps_in None = []
-deps_in (Some said) = said.deps
 
 -- the identity that a dependency's name has
 abbrev pub dep_of : List ℕ → List (List ℕ × List ℕ) → Option Id
@@ -108,7 +91,7 @@ own_or name (Some id) dep = if bytes_eq id.name name then Some id else dep
 
 -- names to identities: the project's own name, then its dependencies
 abbrev pub root_of : Env → List ℕ → Option Id
-root_of env name = own_or name (own env) (dep_of name (deps_in env.project))
+root_of env name = own_or name env.own (dep_of name env.deps)
 
 -- two identifiers, or none, that are the same
 abbrev pub same_uuid : Option (List ℕ) → Option (List ℕ) → Bool
@@ -151,7 +134,7 @@ stanza_entry files depots folder (Some stanza) = origin_entry files depots folde
 -- identities to paths: the project's own package has `src/X.jl` beside the project file, and comes before a stanza
 abbrev pub path_of : Files → Env → Id → Option Path
 path_of files env id =
-    if is_identity id (own env) then joined (folder_of env.file) (source_text id.name)
+    if is_identity id env.own then joined (folder_of env.file) (source_text id.name)
     else stanza_entry files env.depots env.folder (stanza_of id env.stanzas)
 
 abbrev pub is_std_origin : Origin → Bool
@@ -166,4 +149,4 @@ is_std (Some stanza) = is_std_origin stanza.origin
 
 -- a stanza of the standard library has a form whose entry is not read yet
 abbrev pub is_unbuilt : Env → Id → Bool
-is_unbuilt env id = not (is_identity id (own env)) && is_std (stanza_of id env.stanzas)
+is_unbuilt env id = not (is_identity id env.own) && is_std (stanza_of id env.stanzas)

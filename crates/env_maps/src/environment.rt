@@ -13,9 +13,9 @@ use crate::escaping::{first_escaping, path_refused};
 use crate::fault::EnvFault;
 use crate::file::{manifest_at, project_at};
 use crate::id::{Context, Id};
-use crate::manifest_path::manifest_path;
+use crate::manifest_place::manifest_path;
 use manifest_file::{Manifest, Origin, Stanza, Stanzas};
-use pkg_world::{Duplicate, Name, NormPath, NormPaths, Place, Store};
+use pkg_world::{Duplicate, Name, NameIds, NormPath, NormPaths, Place, Store};
 use project_file::Project;
 use std::alloc::{AllocError, Global};
 use std::marker::Model;
@@ -26,21 +26,21 @@ use uuid::Uuid;
 #[derive(Drop)]
 pub struct ProjectEnv {
     file: NormPath,
-    project: Option<Project>,
+    own: Option<Id>,
+    deps: NameIds,
     folder: NormPath,
     stanzas: Stanzas,
     depots: NormPaths,
 }
 
 impl Model for ProjectEnv {
-    ghost use Rattle.std.specs.Prelude.{map, option_map};
-    ghost use Rattle.project_file.specs.Said.{said};
+    ghost use Rattle.std.specs.Prelude.{map};
     ghost use Rattle.manifest_file.specs.Said.{said_stanza};
     ghost use Rattle.env_maps.specs.Maps.{Env};
 
     ghost Value = { Env };
 
-    ghost view = { λ a. record { file = a.file; project = option_map said a.project; folder = a.folder; stanzas = map said_stanza a.stanzas.items; depots = a.depots.items } };
+    ghost view = { λ a. record { file = a.file; own = a.own; deps = a.deps.items; folder = a.folder; stanzas = map said_stanza a.stanzas.items; depots = a.depots.items } };
 }
 
 impl ProjectEnv {
@@ -72,15 +72,15 @@ impl ProjectEnv {
     pub fn root(&self, alloc: Global, name: &Name) -> Result<Option<Id>, AllocError>
         ensures { IfOk result (λ id. id ≡ spec.root_of self.now name.now) }
     {
-        match self.own() {
-            Some((own, uuid)) => {
-                if own.as_str() == name.as_str() {
-                    identity(alloc, own, uuid)
+        match &self.own {
+            Some(own) => {
+                if own.name.as_str() == name.as_str() {
+                    Ok(Some(own.copy(alloc)?))
                 } else {
-                    self.dependency(alloc, name)
+                    dependency_among(alloc, self.deps.items(), name)
                 }
             }
-            None => self.dependency(alloc, name),
+            None => dependency_among(alloc, self.deps.items(), name),
         }
     }
 
@@ -117,32 +117,13 @@ impl ProjectEnv {
         !self.is_own(id) && is_std(self.stanza(id))
     }
 
-    /// The name and the identifier of the project's own package, where the file has both.
-    fn own(&self) -> Option<(&Name, Uuid)>
-        ensures { spec.OwnGives self.now result }
-    {
-        match &self.project {
-            Some(project) => own_of(project),
-            None => None,
-        }
-    }
-
     /// Whether the identity is the project's own package.
     fn is_own(&self, id: &Id) -> bool
-        ensures { result ≡ spec.is_identity id.now (spec.own self.now) }
+        ensures { result ≡ spec.is_identity id.now self.now.own }
     {
-        match self.own() {
-            Some((name, uuid)) => name.as_str() == id.name.as_str() && is_uuid(&id.uuid, &uuid),
+        match &self.own {
+            Some(own) => own.name.as_str() == id.name.as_str() && is_same(&own.uuid, &id.uuid),
             None => false,
-        }
-    }
-
-    fn dependency(&self, alloc: Global, name: &Name) -> Result<Option<Id>, AllocError>
-        ensures { IfOk result (λ id. id ≡ spec.dep_of name.now (spec.deps_in self.now.project)) }
-    {
-        match &self.project {
-            Some(project) => dependency_among(alloc, project.deps.items(), name),
-            None => Ok(None),
         }
     }
 
@@ -154,12 +135,19 @@ impl ProjectEnv {
     }
 }
 
-fn own_of(project: &Project) -> Option<(&Name, Uuid)>
-    ensures { spec.OwnIs (spec.own_of project.now.name project.now.uuid) result }
+/// The identity of a project's own package, where the file has both name and identifier.
+fn own_of(name: Option<Name>, uuid: Option<Uuid>) -> Option<Id>
+    ensures { result ≡ spec.own_of name uuid }
 {
-    match (&project.name, &project.uuid) {
-        (Some(name), Some(uuid)) => Some((name, *uuid)),
-        _ => None,
+    match name {
+        Some(name) => match uuid {
+            Some(uuid) => Some(Id {
+                uuid: Some(uuid),
+                name,
+            }),
+            None => None,
+        },
+        None => None,
     }
 }
 
@@ -206,6 +194,15 @@ fn is_of(stanza: &Stanza, id: &Id) -> bool
     stanza.name.as_str() == id.name.as_str() && is_uuid(&id.uuid, &stanza.uuid)
 }
 
+fn is_same(one: &Option<Uuid>, other: &Option<Uuid>) -> bool
+    ensures { result ≡ spec.same_uuid one.now other.now }
+{
+    match one {
+        Some(one) => is_uuid(other, one),
+        None => false,
+    }
+}
+
 fn is_uuid(given: &Option<Uuid>, uuid: &Uuid) -> bool
     ensures { result ≡ spec.same_uuid (Some uuid.now) given.now }
 {
@@ -241,7 +238,8 @@ fn empty(alloc: Global, place: &Place, file: &NormPath) -> Result<ProjectEnv, Al
 {
     Ok(ProjectEnv {
         file: file.copy(alloc)?,
-        project: None,
+        own: None,
+        deps: NameIds::make(alloc),
         folder: file.folder(alloc)?,
         stanzas: Stanzas::make(alloc),
         depots: place.depots.copy(alloc)?,
@@ -249,6 +247,7 @@ fn empty(alloc: Global, place: &Place, file: &NormPath) -> Result<ProjectEnv, Al
 }
 
 /// The environment of a project with its manifest.
+#[tactic(auto, unfolding(project_file::specs::Said::said))]
 fn with_manifest<S: Store>(
     alloc: Global,
     store: &mut S,
@@ -289,6 +288,7 @@ fn with_manifest_at<S: Store>(
 }
 
 /// The environment, unless the path of a stanza rises above the root.
+#[tactic(auto, unfolding(project_file::specs::Said::said))]
 fn with_stanzas(
     alloc: Global,
     place: &Place,
@@ -315,12 +315,16 @@ fn made(
     folder: NormPath,
     manifest: Manifest,
 ) -> Result<ProjectEnv, AllocError>
-    ensures { IfOk result (λ env. env ≡ record { file = file.now; project = Some (said_project project); folder = folder; stanzas = map said_stanza manifest.stanzas.items; depots = place.now.depots.items }) }
+    ensures { IfOk result (λ env. env ≡ record { file = file.now; own = spec.own_of project.name project.uuid; deps = project.deps.items; folder = folder; stanzas = map said_stanza manifest.stanzas.items; depots = place.now.depots.items }) }
 {
     let Manifest { stanzas, .. } = manifest;
+    let Project {
+        name, uuid, deps, ..
+    } = project;
     Ok(ProjectEnv {
         file: file.copy(alloc)?,
-        project: Some(project),
+        own: own_of(name, uuid),
+        deps,
         folder,
         stanzas,
         depots: place.depots.copy(alloc)?,

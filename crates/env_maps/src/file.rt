@@ -1,16 +1,16 @@
 //! The two files of a project, read from a store.
-ghost use Rattle.std.specs.Prelude.{◌≡◌, ◌≤◌, IfSome, IfErr};
+ghost use Rattle.std.specs.Prelude.{◌≡◌, ◌≤◌, IfSome, IfOk, IfErr};
 ghost use Rattle.pkg_world.specs.Tree.{holds, file_bytes};
 ghost use Rattle.project_file.specs.Projects as projects;
 ghost use Rattle.manifest_file.specs.Saying as manifests;
-ghost use Rattle.env_maps.specs.Files.{at_file, project_in, manifest_in, some_of, LoadsProject, LoadsManifest, RefusesFile};
+ghost use Rattle.env_maps.specs.Files.{at_file, project_in, manifest_in, some_of, LoadsProject, LoadsManifest, RefusesFile, RefusesBy, manifest_cause};
 ghost use Rattle.env_maps.specs.Faults.{OnlyReadFault, NoReadFault, ReadFaultRose};
 
 use crate::fault::EnvFault;
 use manifest_file::{Manifest, ManifestFault, Stanzas};
 use pkg_world::{Cause, Duplicate, NormPath, Store, Unread, file_at};
 use project_file::{Project, ProjectFault};
-use std::alloc::Global;
+use std::alloc::{AllocError, Global};
 
 /// The project of the file at a path; None exactly where no file is there.
 ///
@@ -84,21 +84,39 @@ fn manifest_of(alloc: Global, file: &NormPath, bytes: &[u8]) -> Result<Manifest,
 {
     match Manifest::read(alloc, bytes) {
         Ok(manifest) => Ok(manifest),
-        Err(ManifestFault::BadToml) => Err(bad_file(alloc, file, Cause::BadToml)),
-        Err(ManifestFault::Deep) => Err(bad_file(alloc, file, Cause::Deep)),
-        Err(ManifestFault::BadShape(keys)) => Err(bad_file(alloc, file, Cause::BadShape(keys))),
-        Err(ManifestFault::BadVersion(keys, place)) => {
-            Err(bad_file(alloc, file, Cause::BadVersion(keys, place)))
-        }
-        Err(ManifestFault::SameUuid(id)) => Err(bad_file(alloc, file, Cause::SameUuid(id))),
-        Err(ManifestFault::Dangling(from, name)) => {
-            Err(bad_file(alloc, file, Cause::Dangling(from, name)))
-        }
-        Err(ManifestFault::Unclear(from, name)) => {
-            Err(bad_file(alloc, file, Cause::Unclear(from, name)))
-        }
-        Err(ManifestFault::Memory) => Err(EnvFault::Memory),
+        Err(fault) => Err(manifest_refused(alloc, file, &fault)),
     }
+}
+
+/// The refusal of a manifest, or want of memory.
+fn manifest_refused(alloc: Global, file: &NormPath, fault: &ManifestFault) -> EnvFault
+    ensures told { RefusesBy file.now (manifest_cause fault.now) result }
+    ensures fault { NoReadFault result }
+{
+    match manifest_cause(alloc, fault) {
+        Ok(Some(cause)) => bad_file(alloc, file, cause),
+        Ok(None) => EnvFault::Memory,
+        Err(_) => EnvFault::Memory,
+    }
+}
+
+/// The cause that a fault names; want of memory names none.
+fn manifest_cause(alloc: Global, fault: &ManifestFault) -> Result<Option<Cause>, AllocError>
+    ensures { IfOk result (λ cause. cause ≡ manifest_cause fault.now) }
+{
+    let cause = match fault {
+        ManifestFault::BadToml => Cause::BadToml,
+        ManifestFault::Deep => Cause::Deep,
+        ManifestFault::BadShape(keys) => Cause::BadShape(keys.copy(alloc)?),
+        ManifestFault::BadVersion(keys, place) => Cause::BadVersion(keys.copy(alloc)?, *place),
+        ManifestFault::SameUuid(id) => Cause::SameUuid(*id),
+        ManifestFault::Dangling(from, name) => {
+            Cause::Dangling(from.copy(alloc)?, name.copy(alloc)?)
+        }
+        ManifestFault::Unclear(from, name) => Cause::Unclear(from.copy(alloc)?, name.copy(alloc)?),
+        ManifestFault::Memory => return Ok(None),
+    };
+    Ok(Some(cause))
 }
 
 /// The refusal of a file, or want of memory.

@@ -1,5 +1,6 @@
 //! Identities of packages, and from where an import is asked.
-use pkg_world::Name;
+use pkg_world::{Duplicate, Name};
+use std::alloc::{AllocError, Global};
 use uuid::Uuid;
 
 /// The identity of a package: its name, and its identifier where it has one (Julia manual, Code Loading).
@@ -7,6 +8,15 @@ use uuid::Uuid;
 pub struct Id {
     pub uuid: Option<Uuid>,
     pub name: Name,
+}
+
+impl Duplicate for Id {
+    fn copy(&self, alloc: Global) -> Result<Id, AllocError> {
+        Ok(Id {
+            uuid: self.uuid,
+            name: self.name.copy(alloc)?,
+        })
+    }
 }
 
 /// From where an import is asked.

@@ -10,7 +10,7 @@ mod fault;
 mod file;
 mod folders;
 mod id;
-mod manifest_path;
+mod manifest_place;
 mod there;
 
 pub use active::active_project;
@@ -18,4 +18,4 @@ pub use environment::ProjectEnv;
 pub use fault::EnvFault;
 pub use file::{manifest_at, project_at};
 pub use id::{Context, Id};
-pub use manifest_path::manifest_path;
+pub use manifest_place::manifest_path;

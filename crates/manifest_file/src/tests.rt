@@ -60,7 +60,11 @@ fn a_manifest_of_every_kind_of_stanza_is_read(rt: HostRuntime) -> Result<(), Fai
         assert_eq!(rt; kind(&stanza.origin), origin, "{name}");
         assert_eq!(rt; stanza.pinned, pinned, "{name}");
         assert_eq!(rt; shown(rt.alloc(), &stanza.deps)?.as_str(), deps, "{name}");
-        assert_eq!(rt; shown(rt.alloc(), &stanza.weakdeps)?.as_str(), weak, "{name}");
+        assert_eq!(rt;
+            shown(rt.alloc(), &stanza.weakdeps)?.as_str(),
+            weak,
+            "{name}"
+        );
     }
     Ok(())
 }
@@ -141,23 +145,80 @@ const U1: &str = "uuid = \"00000000-0000-4000-8000-000000000001\"\n";
 fn each_refusal_names_its_place(rt: HostRuntime) -> Result<(), Fail> {
     for (parts, want) in [
         (["[[deps.A", "", "", "", ""], "BadToml"),
-        (["a = [[[[[[[[[[[[[[[[[[[[[[[[[[[[[[[[[[[[[[[[[[[[[[[[[[[[[[[[[[[[[[[[", "]]]]]]]]]]]]]]]]]]]]]]]]]]]]]]]]]]]]]]]]]]]]]]]]]]]]]]]]]]]]]]]]", "", "", ""], "Deep"),
+        (
+            [
+                "a = [[[[[[[[[[[[[[[[[[[[[[[[[[[[[[[[[[[[[[[[[[[[[[[[[[[[[[[[[[[[[[[[",
+                "]]]]]]]]]]]]]]]]]]]]]]]]]]]]]]]]]]]]]]]]]]]]]]]]]]]]]]]]]]]]]]]]",
+                "",
+                "",
+                "",
+            ],
+            "Deep",
+        ),
         (["x = 1", "", "", "", ""], "BadShape manifest_format"),
-        (["manifest_format = \"2.\"", "", "", "", ""], "BadShape manifest_format"),
-        (["manifest_format = 2.0", "", "", "", ""], "BadShape manifest_format"),
-        (["manifest_format = 1\n", "deps = 1", "", "", ""], "BadShape deps"),
-        ([F, "julia_version = \"1.x\"", "", "", ""], "BadVersion julia_version 2"),
-        ([F, "[[deps.A]]\n", "version = \"1\"", "", ""], "BadShape deps.A.uuid"),
-        ([F, "[[deps.A]]\n", U1, "version = \"1.2.\"", ""], "BadVersion deps.A.version 4"),
-        ([F, "[[deps.A]]\n", U1, "repo-url = \"u\"", ""], "BadShape deps.A.git-tree-sha1"),
-        ([F, "[[deps.A]]\n", U1, "git-tree-sha1 = \"12\"", ""], "BadShape deps.A.git-tree-sha1"),
-        ([F, "[[deps.A]]\n", U1, "path = \"p\"\n", "repo-rev = 1"], "BadShape deps.A.repo-rev"),
-        ([F, "[[deps.A]]\n", U1, "pinned = \"yes\"", ""], "BadShape deps.A.pinned"),
-        ([F, "[[deps.A]]\n", U1, "[deps.A.extensions]\n", "E = 1"], "BadShape deps.A.extensions.E"),
+        (
+            ["manifest_format = \"2.\"", "", "", "", ""],
+            "BadShape manifest_format",
+        ),
+        (
+            ["manifest_format = 2.0", "", "", "", ""],
+            "BadShape manifest_format",
+        ),
+        (
+            ["manifest_format = 1\n", "deps = 1", "", "", ""],
+            "BadShape deps",
+        ),
+        (
+            [F, "julia_version = \"1.x\"", "", "", ""],
+            "BadVersion julia_version 2",
+        ),
+        (
+            [F, "[[deps.A]]\n", "version = \"1\"", "", ""],
+            "BadShape deps.A.uuid",
+        ),
+        (
+            [F, "[[deps.A]]\n", U1, "version = \"1.2.\"", ""],
+            "BadVersion deps.A.version 4",
+        ),
+        (
+            [F, "[[deps.A]]\n", U1, "repo-url = \"u\"", ""],
+            "BadShape deps.A.git-tree-sha1",
+        ),
+        (
+            [F, "[[deps.A]]\n", U1, "git-tree-sha1 = \"12\"", ""],
+            "BadShape deps.A.git-tree-sha1",
+        ),
+        (
+            [F, "[[deps.A]]\n", U1, "path = \"p\"\n", "repo-rev = 1"],
+            "BadShape deps.A.repo-rev",
+        ),
+        (
+            [F, "[[deps.A]]\n", U1, "pinned = \"yes\"", ""],
+            "BadShape deps.A.pinned",
+        ),
+        (
+            [F, "[[deps.A]]\n", U1, "[deps.A.extensions]\n", "E = 1"],
+            "BadShape deps.A.extensions.E",
+        ),
         ([F, "[[deps.A]]\n", U1, "[[deps.B]]\n", U1], "SameUuid 1"),
-        ([F, "[[deps.A]]\ndeps = [\"Q\"]\n", U1, "[[deps.B]]\n", U1], "SameUuid 1"),
-        ([F, "[[deps.A]]\n", U1, "deps = [\"Q\"]", ""], "Dangling A Q"),
-        ([F, "[[deps.A]]\ndeps = [\"Q\"]\nuuid = \"00000000-0000-4000-8000-000000000003\"\n", "[[deps.Q]]\n", U1, "[[deps.Q]]\nuuid = \"00000000-0000-4000-8000-000000000002\"\n"], "Unclear A Q"),
+        (
+            [F, "[[deps.A]]\ndeps = [\"Q\"]\n", U1, "[[deps.B]]\n", U1],
+            "SameUuid 1",
+        ),
+        (
+            [F, "[[deps.A]]\n", U1, "deps = [\"Q\"]", ""],
+            "Dangling A Q",
+        ),
+        (
+            [
+                F,
+                "[[deps.A]]\ndeps = [\"Q\"]\nuuid = \"00000000-0000-4000-8000-000000000003\"\n",
+                "[[deps.Q]]\n",
+                U1,
+                "[[deps.Q]]\nuuid = \"00000000-0000-4000-8000-000000000002\"\n",
+            ],
+            "Unclear A Q",
+        ),
     ] {
         let [a, b, c, d, e] = parts;
         let text = format!(in rt.alloc(); "{a}{b}{c}{d}{e}")?;

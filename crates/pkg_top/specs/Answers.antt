@@ -11,7 +11,7 @@ use Rattle.pkg_top.specs.declared.status.Told.TheVariants.{Whole, Failed, Memory
 use Rattle.pkg_top.specs.Lines.{status_line}
 
 -- a refusal comes exactly where it is due; a failed read and want of memory tell nothing of the files
-abbrev pub Refuses : Result (List ℕ) Status → Status → Type 0
+abbrev pub Refuses : {T : Type 0} → Result T Status → Status → Type 0
 Refuses due StatusOk = ⊥
 Refuses due (ReadFault path) = Unit {0}
 Refuses due Memory = Unit {0}

@@ -7,6 +7,7 @@ pub mod StatusDue
 pub mod VerifyDue
 pub mod Due
 pub mod Answers
+pub mod Home
 pub mod Seen
 pub mod Placing
 pub mod PlaceViews

@@ -3,6 +3,7 @@
 
 mod cause_line;
 mod early;
+mod home;
 mod offers;
 mod pieces;
 mod place;

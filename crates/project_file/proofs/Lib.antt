@@ -1,2 +1,5 @@
 pub mod Orders
 pub mod Rests
+pub mod Members
+pub mod Written
+pub mod Printed

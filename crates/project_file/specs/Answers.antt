@@ -1,15 +1,12 @@
 -- What each answer of the crate's calls tells.
-use Rattle.std.specs.Prelude.{◌≡◌, ℕ, List, [], Option, Some, None, Result, Ok, Err, MatchResult}
-use Rattle.std.specs.Option.{unwrap_or}
+use Rattle.std.specs.Prelude.{◌≡◌, Option, Some, None, Result, Err}
 use Rattle.pkg_world.specs.declared.cause.Cause.{Cause}
 use Rattle.pkg_world.specs.declared.cause.Cause.TheVariants as causes
-use Rattle.toml_view.specs.Answers.{Refuses as StopRefuses}
-use Rattle.toml_view.specs.declared.refusal.Refusal.{Refusal}
 use Rattle.toml_view.specs.declared.refusal.Stop.{Stop}
 use Rattle.toml_view.specs.declared.refusal.Stop.TheVariants as stops
 use Rattle.toml_view.specs.declared.document.ViewFault.{ViewFault}
 use Rattle.toml_view.specs.declared.document.ViewFault.TheVariants as views
-use Rattle.project_file.specs.Projects.{caused_by}
+use Rattle.toml_view.specs.Causes.{cause_of}
 use Rattle.project_file.specs.declared.fault.ProjectFault.{ProjectFault}
 use Rattle.project_file.specs.declared.fault.ProjectFault.TheVariants.{BadToml, Deep, BadShape, BadVersion, BadSpec, Memory}
 
@@ -39,9 +36,5 @@ IsUnviewed views.Memory fault = fault ≡ Memory
 
 -- the fault of a stopped reading
 abbrev pub IsFaultOf : Stop → ProjectFault → Type 0
-IsFaultOf (stops.Refused refusal) fault = cause_named fault ≡ Some (caused_by (unwrap_or refusal.path []) refusal.flaw)
+IsFaultOf (stops.Refused refusal) fault = cause_named fault ≡ Some (cause_of refusal)
 IsFaultOf stops.Memory fault = fault ≡ Memory
-
--- what a reading of a table tells
-abbrev pub Gives : {S T : Type 0} → (S → T) → Result S Stop → Result T Refusal → Type 0
-Gives shown answer reading = MatchResult answer (λ value. reading ≡ Ok (shown value)) (λ stop. StopRefuses stop reading)

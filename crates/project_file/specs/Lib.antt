@@ -5,3 +5,4 @@ pub mod Said
 pub mod Projects
 pub mod Chain
 pub mod Answers
+pub mod Putting

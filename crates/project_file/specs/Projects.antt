@@ -2,17 +2,14 @@
 -- every key that isn't named is kept as it stands.
 --     project_of members   the project of a table's members
 --     read_of bytes        the project of a file's bytes
-use Rattle.std.specs.Prelude.{ℕ, List, [], ◌∷◌, codes, Option, Some, None, Result, Ok, Err}
-use Rattle.std.specs.Option.{unwrap_or}
+use Rattle.std.specs.Prelude.{ℕ, List, [], ◌∷◌, codes, Option, None, Result, Ok}
 use Rattle.toml.specs.Data.{Members}
 use Rattle.jl_versions.specs.declared.version.Version.{Version}
 use Rattle.pkg_world.specs.declared.cause.Cause.{Cause}
-use Rattle.pkg_world.specs.declared.cause.Cause.TheVariants.{BadToml, Deep, BadShape, BadVersion, BadSpec}
-use Rattle.toml_view.specs.Document.{viewed, ViewRefusal, bad_toml, deep}
+use Rattle.toml_view.specs.Document.{viewed}
+use Rattle.toml_view.specs.Causes.{of_view}
 use Rattle.toml_view.specs.KeyOrder.{in_key_order, verdict}
-use Rattle.toml_view.specs.Reading.{text_of, uuid_of, texts_of, version_at, opt, table_at}
-use Rattle.toml_view.specs.declared.refusal.Flaw.{Flaw}
-use Rattle.toml_view.specs.declared.refusal.Flaw.TheVariants as flaws
+use Rattle.toml_view.specs.Reading.{uuid_of, texts_of, version_at, opt, table_at}
 use Rattle.toml_view.specs.declared.refusal.Refusal.{Refusal}
 use Rattle.project_file.specs.declared.source.Source.{Source}
 use Rattle.project_file.specs.Spelled.{Spelled, spec_of}
@@ -72,20 +69,5 @@ project_of members = in_key_order (
     ∷ verdict (codes "manifest") (text_in (codes "manifest") members)
     ∷ []) (Ok (built members))
 
--- the cause of a refused key
-abbrev pub caused_by : List ℕ → Flaw → Cause
-caused_by path flaws.Shape = BadShape path
-caused_by path (flaws.Version place) = BadVersion path place
-caused_by path (flaws.Spec place) = BadSpec path place
-
-abbrev pub caused : {T : Type 0} → Result T Refusal → Result T Cause
-caused (Ok value) = Ok value
-caused (Err refusal) = Err (caused_by (unwrap_or refusal.path []) refusal.flaw)
-
-abbrev pub of_view : Result Members ViewRefusal → Result Said Cause
-of_view (Ok members) = caused (project_of members)
-of_view (Err bad_toml) = Err BadToml
-of_view (Err deep) = Err Deep
-
 abbrev pub read_of : List ℕ → Result Said Cause
-read_of bytes = of_view (viewed bytes)
+read_of bytes = of_view project_of (viewed bytes)

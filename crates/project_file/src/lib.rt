@@ -3,10 +3,15 @@
 
 mod fault;
 mod project;
+mod putting;
 mod reading;
 mod source;
 mod spec_text;
+mod tables;
+#[cfg(test)]
+mod tests;
 mod triggers;
+mod writes;
 
 pub use fault::ProjectFault;
 pub use project::{Project, SourceList, SpecList};

@@ -1,6 +1,9 @@
 //! Projects.
-ghost use Rattle.std.specs.Prelude.{◌≡◌, Ok};
+ghost use Rattle.std.specs.Prelude.{◌≡◌, ◌≤◌, Ok, IsTrue};
 ghost use Rattle.toml.specs.Data.{no_members};
+ghost use Rattle.toml.specs.View.{table_view};
+ghost use Rattle.toml_view.specs.Document.{nesting, nesting_limit};
+ghost use Rattle.project_file.specs.Keys.{names_none};
 ghost use Rattle.project_file.specs.Said.{said};
 ghost use Rattle.project_file.specs.Projects.{project_of};
 
@@ -43,7 +46,9 @@ impl Project {
     /// The project of a file without any key, which is that of a missing one. Takes no memory.
     #[tactic(auto, unfolding(crate::specs::Said::said, crate::specs::Projects::project_of))]
     pub fn empty(alloc: Global) -> Project
-        ensures { project_of no_members ≡ Ok (said result) }
+        ensures said { project_of no_members ≡ Ok (said result) }
+        ensures plain { IsTrue (names_none (table_view result.rest)) }
+        ensures nested { nesting (table_view result.rest) ≤ nesting_limit }
     {
         Project {
             name: None,

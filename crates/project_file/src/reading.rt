@@ -1,11 +1,13 @@
 //! Reading a project file.
-ghost use Rattle.std.specs.Prelude.{◌≡◌, ◌==◌, Ok, IfOk, IfErr, MatchResult, IsTrue};
+ghost use Rattle.std.specs.Prelude.{◌≡◌, ◌==◌, ◌≤◌, Ok, IfOk, IfErr, MatchResult, IsTrue};
 ghost use Rattle.toml.specs.View.{table_view};
+ghost use Rattle.toml_view.specs.Document.{nesting, nesting_limit};
 ghost use Rattle.toml_view.specs.Answers.{HasPath, Refuses as StopRefuses};
 ghost use Rattle.project_file.specs.Answers.{Refuses};
 ghost use Rattle.project_file.specs.Chain.{project_chain};
 ghost use Rattle.project_file.specs.Keys.{unnamed, is_named, names_none};
-ghost use Rattle.project_file.specs.Projects.{project_of, read_of, caused};
+ghost use Rattle.project_file.specs.Projects.{project_of, read_of};
+ghost use Rattle.toml_view.specs.Causes.{caused};
 ghost use Rattle.project_file.specs.Said.{said};
 
 use crate::fault::{ProjectFault, fault_of, unviewed};
@@ -27,8 +29,9 @@ impl Project {
     pub fn read(alloc: Global, bytes: &[u8]) -> Result<Project, ProjectFault>
         // What is read is what the bytes say, and a refusal is the one that they call for.
         ensures told { MatchResult result (λ project. read_of bytes.now ≡ Ok (said project)) (Refuses (read_of bytes.now)) }
-        // No key of the rest is a named one.
+        // No key of the rest is a named one, and the rest nests within the limit: `to_table` takes the project.
         ensures plain { IfOk result (λ project. IsTrue (names_none (table_view project.rest))) }
+        ensures nested { IfOk result (λ project. nesting (table_view project.rest) ≤ nesting_limit) }
     {
         match view(alloc, bytes) {
             Ok(table) => of_table(alloc, table),
@@ -42,6 +45,7 @@ impl Project {
 fn of_table(alloc: Global, table: Table) -> Result<Project, ProjectFault>
     ensures told { MatchResult result (λ project. caused (project_of (table_view table)) ≡ Ok (said project)) (Refuses (caused (project_of (table_view table)))) }
     ensures plain { IfOk result (λ project. IsTrue (names_none (table_view project.rest))) }
+    ensures nested { IfOk result (λ project. nesting (table_view project.rest) ≤ nesting (table_view table)) }
 {
     match read_keys(alloc, table) {
         Ok(project) => Ok(project),
@@ -56,6 +60,7 @@ fn read_keys(alloc: Global, table: Table) -> Result<Project, Stop>
     ensures err { IfErr result (λ stop. StopRefuses stop (project_chain (table_view table))) }
     ensures path { IfErr result HasPath }
     ensures plain { IfOk result (λ project. IsTrue (names_none (table_view project.rest))) }
+    ensures nested { IfOk result (λ project. nesting (table_view project.rest) ≤ nesting (table_view table)) }
 {
     let compat = table_at(alloc, SpecReader, &table, "compat")?.into_list();
     let deps = table_at(alloc, UuidReader, &table, "deps")?.into_list();
@@ -86,6 +91,7 @@ fn read_keys(alloc: Global, table: Table) -> Result<Project, Stop>
 fn without_named(mut table: Table) -> Table
     ensures rest { table_view result ≡ unnamed (table_view table) }
     ensures plain { IsTrue (names_none (table_view result)) }
+    ensures nested { nesting (table_view result) ≤ nesting (table_view table) }
 {
     table.retain(|key, _| !names(key.as_str()));
     table

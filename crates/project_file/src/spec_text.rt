@@ -42,7 +42,8 @@ impl SpecText {
 
     /// The text, unchanged. Takes no memory.
     pub fn text(&self) -> &str
-        ensures { result.now ≡ self.now.text }
+        ensures text { result.now ≡ self.now.text }
+        ensures meant { specifier_meant self.now.text ≡ Ok self.now.parts }
     {
         self.text.as_str()
     }

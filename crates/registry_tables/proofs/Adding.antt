@@ -1,5 +1,5 @@
 -- Going over depots and names: the paths so far, and those of the rest.
-use Rattle.std.proofs.Common.{◌≡◌, Result, Ok, Err, OnOk, ℕ, suc, ◌+◌, ◌<◌, arith, get_or, length, Bool, List, [], ◌∷◌, ◌++◌, map, filter, flat_map, drop, Option, Some, None, IfSome, refl, sym, ap, ◌∙◌, append_assoc, append-nil}
+use Rattle.std.proofs.Common.{◌≡◌, Result, OnOk, ℕ, suc, ◌+◌, ◌<◌, arith, get_or, length, Bool, List, [], ◌∷◌, ◌++◌, map, filter, flat_map, drop, Option, Some, None, IfSome, sym, ap, ◌∙◌, append_assoc}
 use Rattle.std.proofs.Math.Seq.{drop-cons}
 use Rattle.std.proofs.lemmas.List.{map-append}
 use Rattle.std.proofs.lemmas.List.Elements.{filter-append}
@@ -31,15 +31,15 @@ kept-next : (test : Path → Bool) (folder : Path) (name : List ℕ) (names rest
     → old ++ filter test (children folder rest) ≡ whole → new ≡ old ++ filter test (children folder (name ∷ [])) → new ++ filter test (children folder more) ≡ whole
 kept-next test folder name names rest more old new whole there e h =
     rest-next old (filter test (children folder (name ∷ []))) (filter test (children folder more)) whole new
-      (ap (λ t. old ++ t) (sym (kept-append test folder (name ∷ []) more) ∙ ap (λ t. filter test (children folder t)) (sym there)) ∙ e) h
+    (ap (λ t. old ++ t) (sym (kept-append test folder (name ∷ []) more) ∙ ap (λ t. filter test (children folder t)) (sym there)) ∙ e) h
 
 -- one name more
 pub names-next : (files : Option Files) (folder : Path) (name : List ℕ) (names rest more : List (List ℕ)) (first old new : Registries) → rest ≡ name ∷ more
     → IfSome files (λ all. Comes (filter (is_registry all) (children folder rest)) (filter (is_packed all) (children folder rest))
-        (filter (is_registry all) (children folder names)) (filter (is_packed all) (children folder names)) first old)
+    (filter (is_registry all) (children folder names)) (filter (is_packed all) (children folder names)) first old)
     → IfSome files (λ all. Adds (filter (is_registry all) (children folder (name ∷ []))) (filter (is_packed all) (children folder (name ∷ []))) old new)
     → IfSome files (λ all. Comes (filter (is_registry all) (children folder more)) (filter (is_packed all) (children folder more))
-        (filter (is_registry all) (children folder names)) (filter (is_packed all) (children folder names)) first new)
+    (filter (is_registry all) (children folder names)) (filter (is_packed all) (children folder names)) first new)
 names-next None folder name names rest more first old new there before added = before
 names-next (Some all) folder name names rest more first old new there before added =
     (kept-next (is_registry all) folder name names rest more _ _ _ there before.0 added.0, kept-next (is_packed all) folder name names rest more _ _ _ there before.1 added.1)
@@ -55,7 +55,7 @@ depots-append : (test : Path → Bool) (files : Files) (depot : Path) (old whole
     → new ++ flat_map (λ d. filter test (in_folder files (registries_of d))) more ≡ whole
 depots-append test files depot old whole new rest more there e h =
     rest-next old (filter test (in_folder files (registries_of depot))) (flat_map (λ d. filter test (in_folder files (registries_of d))) more) whole new
-      (ap (λ t. old ++ flat_map (λ d. filter test (in_folder files (registries_of d))) t) (sym there) ∙ e) h
+    (ap (λ t. old ++ flat_map (λ d. filter test (in_folder files (registries_of d))) t) (sym there) ∙ e) h
 
 -- one depot more
 pub depots-next : (files : Option Files) (depot : Path) (depots rest more : List Path) (first old new : Registries) → rest ≡ depot ∷ more
@@ -74,5 +74,5 @@ pub depot-names : (files : Option Files) (depot folder : Path) (names : List (Li
 depot-names None depot folder names old new answer here listed added = tt
 depot-names (Some all) depot folder names old new answer here listed added =
     let same : children folder names ≡ in_folder all (registries_of depot) =
-      ap (λ n. children folder (unwrap_or n [])) listed ∙ ap (in_folder all) here in
+    ap (λ n. children folder (unwrap_or n [])) listed ∙ ap (in_folder all) here in
     rw (← same) added

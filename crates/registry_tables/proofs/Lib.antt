@@ -1,1 +1,7 @@
 mod Adding
+pub mod NamesInOrder
+pub mod Walks
+pub mod Marks
+mod Packages
+mod RegistryOrders
+pub mod Twice

@@ -1,5 +1,5 @@
 -- Why a registry's file can't be used, and what the answers of the crate's calls tell of the files.
-use Rattle.std.specs.Prelude.{◌≡◌, ℕ, List, [], Option, Some, None, String, Result, Ok, Err, MatchResult}
+use Rattle.std.specs.Prelude.{◌≡◌, ℕ, List, Option, Some, None, String, Result, Ok, Err, MatchResult}
 use Rattle.std.specs.BTreeMap.{BTreeMap}
 use Rattle.std.specs.declared.alloc.Global.{Global}
 use Rattle.toml.specs.Data.{Members}

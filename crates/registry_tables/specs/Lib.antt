@@ -1,2 +1,10 @@
 pub mod Answers
 pub mod Registries
+pub mod Identifiers
+pub mod Registry
+pub mod RegistryKeys
+pub mod Clash
+pub mod Row
+pub mod Rows
+pub mod Sections
+pub mod Versions

@@ -1,6 +1,4 @@
-use Rattle.std.proofs.Common.{◌≡◌, ◌≤◌, ◌+◌, Some, IfSome, sym, subst, ◌∙◌, drop, arith}
-use Rattle.pkg_world.specs.Tree.{Files}
-use Rattle.std.specs.Prelude.{Option}
+use Rattle.std.proofs.Common.{◌∙◌, arith}
 use Rattle.registry_tables.proofs.Adding.{rest-step, depots-next}
 use Rattle.registry_tables.proofs.depots.add_depots.Goals as goal
 
@@ -11,5 +9,5 @@ depots-preserved g c =
       c.add_depot.ensures.files ∙ same,
       omega (arith, later, c.add_depot.ensures.later),
       c.add_depot.ensures.other ∙ other,
-      depots-next _  c.depot-item.result c.args.depots.now _ _ c.args.found.now c.depots.found c.add_depot.new.found next comes (rw same at c.in_ok-add_depot.ensures.told),
+      depots-next _ c.depot-item.result c.args.depots.now _ _ c.args.found.now c.depots.found c.add_depot.new.found next comes (rw same at c.in_ok-add_depot.ensures.told),
     )

@@ -9,4 +9,4 @@ invariant-depots g l =
     (g.S.Store.read_faults l.initial.store ≤ g.S.Store.read_faults l.store) ×
     (g.S.Store.write_faults l.store ≡ g.S.Store.write_faults l.initial.store) ×
     IfSome (g.S.Store.files l.initial.store) (λ all. Comes (folders all (drop l.depot-index l.depots)) (packed all (drop l.depot-index l.depots))
-        (folders all l.depots) (packed all l.depots) l.initial.found l.found)
+    (folders all l.depots) (packed all l.depots) l.initial.found l.found)

@@ -1,6 +1,4 @@
-use Rattle.std.proofs.Common.{◌≡◌, ◌≤◌, ◌+◌, Some, IfSome, sym, subst, ◌∙◌, drop, arith}
-use Rattle.pkg_world.specs.Tree.{Files}
-use Rattle.std.specs.Prelude.{Option}
+use Rattle.std.proofs.Common.{◌∙◌, arith}
 use Rattle.registry_tables.proofs.Adding.{rest-step, names-next}
 use Rattle.registry_tables.proofs.depots.add_names.Goals as goal
 

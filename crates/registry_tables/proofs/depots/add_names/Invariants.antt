@@ -9,5 +9,5 @@ invariant-names g l =
     (g.S.Store.read_faults l.initial.store ≤ g.S.Store.read_faults l.store) ×
     (g.S.Store.write_faults l.store ≡ g.S.Store.write_faults l.initial.store) ×
     IfSome (g.S.Store.files l.initial.store) (λ all. Comes
-        (filter (is_registry all) (children l.folder (drop l.name-index l.names))) (filter (is_packed all) (children l.folder (drop l.name-index l.names)))
-        (filter (is_registry all) (children l.folder l.names)) (filter (is_packed all) (children l.folder l.names)) l.initial.found l.found)
+    (filter (is_registry all) (children l.folder (drop l.name-index l.names))) (filter (is_packed all) (children l.folder (drop l.name-index l.names)))
+    (filter (is_registry all) (children l.folder l.names)) (filter (is_packed all) (children l.folder l.names)) l.initial.found l.found)

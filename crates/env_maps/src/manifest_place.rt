@@ -1,5 +1,5 @@
 //! Where a project's manifest lies.
-ghost use Rattle.std.specs.Prelude.{◌≡◌, ◌≤◌, Some, codes, IfSome, IfOk, IfErr};
+ghost use Rattle.std.specs.Prelude.{◌≡◌, ◌≤◌, Ok, Some, codes, IfSome, IfOk, IfErr};
 ghost use Rattle.pkg_world.specs.Path.{joined};
 ghost use Rattle.env_maps.specs.ManifestPath as spec;
 ghost use Rattle.env_maps.specs.Files.{at_file, Loads, RefusesFile};
@@ -31,10 +31,44 @@ pub fn manifest_path<S: Store>(
     ensures later { S.read_faults store.old ≤ S.read_faults store.new }
     ensures other { S.write_faults store.new ≡ S.write_faults store.old }
 {
+    by_text(alloc, store, file, &project.manifest)
+}
+
+fn by_text<S: Store>(
+    alloc: Global,
+    store: &mut S,
+    file: &NormPath,
+    text: &Option<Name>,
+) -> Result<NormPath, EnvFault>
+    ensures told { IfSome (S.files store.old) (λ all. Loads (at_file file.now (spec.manifest_path all file.now text.now)) result) }
+    ensures fault { IfErr result (ReadFaultRose (S.read_faults store.old) (S.read_faults store.new)) }
+    ensures files { S.files store.new ≡ S.files store.old }
+    ensures later { S.read_faults store.old ≤ S.read_faults store.new }
+    ensures other { S.write_faults store.new ≡ S.write_faults store.old }
+{
     let folder = file.folder(alloc)?;
-    match &project.manifest {
-        None => first_there(alloc, store, &folder, "JuliaManifest.toml", "Manifest.toml"),
+    match text {
+        None => beside(alloc, store, file, &folder),
         Some(text) => named_manifest(alloc, file, &folder, text),
+    }
+}
+
+/// The manifest beside a project file.
+fn beside<S: Store>(
+    alloc: Global,
+    store: &mut S,
+    file: &NormPath,
+    folder: &NormPath,
+) -> Result<NormPath, EnvFault>
+    ensures told { IfSome (S.files store.old) (λ all. Loads (at_file file.now (Ok (spec.manifest_beside all folder.now))) result) }
+    ensures fault { IfErr result (ReadFaultRose (S.read_faults store.old) (S.read_faults store.new)) }
+    ensures files { S.files store.new ≡ S.files store.old }
+    ensures later { S.read_faults store.old ≤ S.read_faults store.new }
+    ensures other { S.write_faults store.new ≡ S.write_faults store.old }
+{
+    match first_there(alloc, store, folder, "JuliaManifest.toml", "Manifest.toml") {
+        Ok(path) => Ok(path),
+        Err(fault) => Err(fault),
     }
 }
 

@@ -1,0 +1,274 @@
+//! What no clause says: that the calls succeed, and examples of their answers.
+use super::*;
+use jl_versions::Version;
+use pkg_world::{Duplicate, Name, NameIds, Text};
+use std::test::Fail;
+use toml_view::print_table;
+
+/// A project file as Pkg writes it, with each key once, and with keys that have no meaning here.
+const FILE: &str = "authors = [\"Ada <ada@example.org>\"]\nname = \"Example\"\n\
+    uuid = \"7876af07-990d-54b4-ab0e-23690620f79a\"\nversion = \"1.2.3-rc.1\"\nmanifest = \"shared/Manifest.toml\"\n\
+    pi = 3.25\nsince = 2024-05-06\n\n\
+    [deps]\nDates = \"ade2ca70-3891-5945-98fb-dc099432e06a\"\nJSON = \"682c06a0-de6a-54ab-a142-c8b1cf79cde6\"\n\n\
+    [weakdeps]\nPlots = \"91a5bcdd-55d7-5caf-9e0b-520d859cae80\"\n\n\
+    [sources]\nJSON = {path = \"dev/JSON\", url = \"https://example.org/unused\"}\n\
+    Plots = {url = \"https://example.org/Plots.jl\", rev = \"main\", subdir = \"lib\", note = 5}\n\n\
+    [extensions]\nBothExt = [\"Dates\", \"Plots\"]\nPlotsExt = \"Plots\"\n\n\
+    [compat]\nJSON = \"0.21,  ^1\"\njulia = \"\u{2265} 1.10\"\n\n\
+    [extras]\nTest = \"8dfed614-e22c-5e08-85e1-65c5234f0b40\"\n\n\
+    [targets]\ntest = [\"Test\"]\n";
+
+#[derive(Clone, Copy, Debug)]
+enum What {
+    Name,
+    Manifest,
+    Dependency,
+    Extra,
+    Compat,
+    OneTrigger,
+    LastTrigger,
+    Path,
+    Url,
+    Rev,
+    Subdir,
+}
+
+fn text_of(name: &Option<Name>) -> Option<&str> {
+    match name {
+        Some(name) => Some(name.as_str()),
+        None => None,
+    }
+}
+
+fn last_name(ids: &NameIds) -> Option<&str> {
+    match ids.items().last() {
+        Some((name, _)) => Some(name.as_str()),
+        None => None,
+    }
+}
+
+fn last_text(names: &[Name]) -> Option<&str> {
+    match names.last() {
+        Some(name) => Some(name.as_str()),
+        None => None,
+    }
+}
+
+fn trigger(project: &Project, at: usize) -> Option<&str> {
+    match project.extensions.items().get(at) {
+        Some((_, names)) => last_text(names.items()),
+        None => None,
+    }
+}
+
+fn part_of_source(project: &Project, what: What) -> Option<&str> {
+    match (
+        what,
+        project.sources.items().first(),
+        project.sources.items().last(),
+    ) {
+        (What::Path, Some((_, Source::Path(path))), _) => Some(path.as_str()),
+        (What::Url, _, Some((_, Source::Url { url, .. }))) => Some(url.as_str()),
+        (What::Rev, _, Some((_, Source::Url { rev, .. }))) => text_of(rev),
+        (What::Subdir, _, Some((_, Source::Url { subdir, .. }))) => text_of(subdir),
+        _ => None,
+    }
+}
+
+fn shown(project: &Project, what: What) -> Option<&str> {
+    match what {
+        What::Name => text_of(&project.name),
+        What::Manifest => text_of(&project.manifest),
+        What::Dependency => last_name(&project.deps),
+        What::Extra => last_name(&project.extras),
+        What::Compat => match project.compat.items().first() {
+            Some((_, it)) => Some(it.text()),
+            None => None,
+        },
+        What::OneTrigger => trigger(project, 1),
+        What::LastTrigger => trigger(project, 0),
+        _ => part_of_source(project, what),
+    }
+}
+
+const SHOWN: [(What, &str); 11] = [
+    (What::Name, "Example"),
+    (What::Manifest, "shared/Manifest.toml"),
+    (What::Dependency, "JSON"),
+    (What::Extra, "Test"),
+    (What::Compat, "0.21,  ^1"),
+    (What::OneTrigger, "Plots"),
+    (What::LastTrigger, "Plots"),
+    (What::Path, "dev/JSON"),
+    (What::Url, "https://example.org/Plots.jl"),
+    (What::Rev, "main"),
+    (What::Subdir, "lib"),
+];
+
+/// How many of each there are: dependencies, weak ones, extensions, compatibility texts, extras, sources, other keys.
+fn counts(project: &Project) -> [usize; 7] {
+    [
+        project.deps.items().len(),
+        project.weakdeps.items().len(),
+        project.extensions.items().len(),
+        project.compat.items().len(),
+        project.extras.items().len(),
+        project.sources.items().len(),
+        project.rest.len(),
+    ]
+}
+
+/// The first and the last byte of the identifier, and the last number of the version.
+fn numbers(project: &Project) -> [u32; 3] {
+    match (&project.uuid, &project.version) {
+        (Some(uuid), Some(version)) => [
+            u32::from(uuid.as_bytes()[0]),
+            u32::from(uuid.as_bytes()[15]),
+            version.triple()[2],
+        ],
+        _ => [0, 0, 0],
+    }
+}
+
+#[test]
+fn a_file_as_pkg_writes_it_is_read_and_written(rt: HostRuntime) -> Result<(), Fail> {
+    let project = Project::read(rt.alloc(), FILE.as_bytes())?;
+    let bytes = print_table(rt.alloc(), &project.to_table(rt.alloc())?)?;
+    let again = Project::read(rt.alloc(), bytes.items())?;
+    for (what, want) in SHOWN {
+        assert_eq!(rt; shown(&project, what), Some(want), "{what:?}");
+        assert_eq!(rt; shown(&again, what), Some(want), "{what:?} again");
+    }
+    assert_eq!(rt; counts(&project), [2, 1, 2, 2, 1, 2, 4]);
+    assert_eq!(rt; counts(&again), [2, 1, 2, 2, 1, 2, 4]);
+    assert_eq!(rt; numbers(&project), [0x78, 0x9A, 3]);
+    assert_eq!(rt; numbers(&again), [0x78, 0x9A, 3]);
+    Ok(())
+}
+
+#[test]
+fn a_missing_file_is_a_table_without_keys(rt: HostRuntime) -> Result<(), Fail> {
+    let project = Project::empty(rt.alloc());
+    assert_eq!(rt; counts(&project), [0, 0, 0, 0, 0, 0, 0]);
+    assert_eq!(rt; project.to_table(rt.alloc())?.len(), 0);
+    Ok(())
+}
+
+#[test]
+fn a_compatibility_text_keeps_its_bytes(rt: HostRuntime) -> Result<(), Fail> {
+    let it = SpecText::read(rt.alloc(), " ~1.2 , 3")?;
+    let copy = it.copy(rt.alloc())?;
+    assert_eq!(rt; copy.text(), " ~1.2 , 3");
+    let version = Version::of(rt.alloc(), [3, 1, 0]);
+    assert!(rt; copy.spec().holds(&version));
+    assert!(rt; SpecText::read(rt.alloc(), "1,").is_err());
+    Ok(())
+}
+
+fn refusal(answer: Result<Project, ProjectFault>) -> (&'static str, Option<Text>, u64) {
+    match answer {
+        Ok(_) => ("read", None, 0),
+        Err(ProjectFault::BadToml) => ("toml", None, 0),
+        Err(ProjectFault::Deep) => ("deep", None, 0),
+        Err(ProjectFault::BadShape(path)) => ("shape", Some(path), 0),
+        Err(ProjectFault::BadVersion(path, place)) => ("version", Some(path), place),
+        Err(ProjectFault::BadSpec(path, place)) => ("spec", Some(path), place),
+        Err(ProjectFault::Memory) => ("memory", None, 0),
+    }
+}
+
+/// Files with one refusal, its kind, its path and its place.
+const REFUSED: [(&str, &str, &str, u64); 26] = [
+    ("name = ", "toml", "", 0),
+    (
+        "k = [[[[[[[[[[[[[[[[[[[[[[[[[[[[[[[[[[[[[[[[[[[[[[[[[[[[[[[[[[[[[[[[]]]]]]]]]]]]]]]]]]]]]]]]]]]]]]]]]]]]]]]]]]]]]]]]]]]]]]]]]]]]]]]]",
+        "deep",
+        "",
+        0,
+    ),
+    ("name = 5", "shape", "name", 0),
+    ("uuid = 5", "shape", "uuid", 0),
+    ("uuid = \"no\"", "shape", "uuid", 0),
+    ("version = 1.2", "shape", "version", 0),
+    ("version = \"1.x\"", "version", "version", 2),
+    ("manifest = []", "shape", "manifest", 0),
+    ("deps = 5", "shape", "deps", 0),
+    ("[deps]\nA = \"no\"", "shape", "deps.A", 0),
+    ("weakdeps = 5", "shape", "weakdeps", 0),
+    ("[weakdeps]\nA = 1", "shape", "weakdeps.A", 0),
+    ("extras = 5", "shape", "extras", 0),
+    ("[extras]\n\"\" = 1", "shape", "extras.", 0),
+    ("extensions = 5", "shape", "extensions", 0),
+    ("[extensions]\nE = 5", "shape", "extensions.E", 0),
+    ("[extensions]\nE = [\"A\", 5]", "shape", "extensions.E", 0),
+    ("compat = \"1\"", "shape", "compat", 0),
+    ("[compat]\nA = 1", "shape", "compat.A", 0),
+    ("[compat]\nA = \"1.x\"", "spec", "compat.A", 2),
+    ("sources = 5", "shape", "sources", 0),
+    ("[sources]\nA = \"p\"", "shape", "sources.A", 0),
+    ("[sources.A]\npath = 1", "shape", "sources.A.path", 0),
+    (
+        "[sources.A]\npath = \"p\"\nurl = 1",
+        "shape",
+        "sources.A.url",
+        0,
+    ),
+    (
+        "[sources.A]\npath = \"p\"\nrev = 1",
+        "shape",
+        "sources.A.rev",
+        0,
+    ),
+    (
+        "[sources.A]\nurl = \"u\"\nsubdir = 1",
+        "shape",
+        "sources.A.subdir",
+        0,
+    ),
+];
+
+/// Files with two refusals, and the path of the one that comes first by the bytes of the keys.
+const FIRST: [(&str, &str, &str, u64); 6] = [
+    (
+        "name = 5\n[compat]\nB = \"x\"\nA = 1",
+        "shape",
+        "compat.A",
+        0,
+    ),
+    ("version = \"x\"\nuuid = 5", "shape", "uuid", 0),
+    ("weakdeps = 5\nversion = \"x\"", "version", "version", 0),
+    (
+        "[extras]\nA = 1\n[extensions]\nZ = 1",
+        "shape",
+        "extensions.Z",
+        0,
+    ),
+    ("[sources.A]\nurl = 1\nrev = 2", "shape", "sources.A.rev", 0),
+    ("[sources.A]\nrev = 1\nsubdir = 2", "shape", "sources.A", 0),
+];
+
+#[test]
+fn each_key_is_refused_at_its_path(rt: HostRuntime) {
+    for (text, kind, path, place) in REFUSED {
+        let (found, at, number) = refusal(Project::read(rt.alloc(), text.as_bytes()));
+        assert_eq!(rt; found, kind, "{text}");
+        assert_eq!(rt; number, place, "{text}");
+        match at {
+            Some(at) => assert_eq!(rt; at.as_str(), path, "{text}"),
+            None => assert_eq!(rt; path, "", "{text}"),
+        }
+    }
+}
+
+#[test]
+fn of_two_refusals_the_first_in_key_order_answers(rt: HostRuntime) {
+    for (text, kind, path, place) in FIRST {
+        let (found, at, number) = refusal(Project::read(rt.alloc(), text.as_bytes()));
+        assert_eq!(rt; found, kind, "{text}");
+        assert_eq!(rt; number, place, "{text}");
+        match at {
+            Some(at) => assert_eq!(rt; at.as_str(), path, "{text}"),
+            None => assert!(rt; false, "{text}"),
+        }
+    }
+}

@@ -1,0 +1,13 @@
+use Rattle.std.proofs.Common.{◌≡◌, ℕ, [], List}
+use Rattle.toml.specs.View.{members_view}
+use Rattle.registry_tables.specs.Registry.{is_among, packages_of_members}
+use Rattle.registry_tables.specs.Identifiers.{has}
+use Rattle.registry_tables.proofs.Packages.{onto}
+use Rattle.registry_tables.proofs.registry.read_packages.Given as goal
+
+abbrev pub invariant-members : goal.invariant-members
+invariant-members l =
+    goal.iterator-members.can_next l.key-iterator ×
+    goal.iterator-members.is_finite l.key-iterator ×
+    ((earlier : List (List ℕ)) × ((other : List ℕ) → has l.seen other ≡ is_among earlier other)
+    × (packages_of_members l.path.folder [] (members_view l.table.entries) ≡ onto l.list.items (packages_of_members l.path.folder earlier (members_view l.key-iterator))))

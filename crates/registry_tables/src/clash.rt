@@ -1,0 +1,235 @@
+//! Two sections that give one version different values of one name.
+ghost use Rattle.std.specs.Prelude.{◌≡◌, ◌++◌, ◌∷◌, [], map, IfOk, OnOk, option_map, string_bytes};
+ghost use Rattle.std.specs.List.{flat_map};
+ghost use Rattle.registry_tables.specs.Clash as spec;
+
+use crate::groups::{Group, groups};
+use crate::kept_ranges::KeptRanges;
+use crate::package_rows::{Entry, VersionRow};
+use compat_spec::Range;
+use jl_versions::Version;
+use pkg_world::{Cause, Duplicate, Text};
+use std::alloc::{AllocError, Global};
+use std::marker::Model;
+use uuid::Uuid;
+
+/// What a section gives a name.
+pub(crate) trait SectionValue: Drop {
+    ghost use Rattle.std.specs.Prelude.{Bool, List, ℕ};
+
+    ghost same: { Self → Self → Bool };
+
+    ghost text: { Self → List ℕ };
+
+    /// Whether two values are equal.
+    fn is_same(&self, other: &Self) -> bool
+        ensures { result ≡ same self.now other.now };
+
+    /// The value as a refusal prints it.
+    fn print(&self, alloc: Global) -> Result<Text, AllocError>
+        ensures { IfOk result (λ printed. printed ≡ text self.now) };
+}
+
+impl SectionValue for Uuid {
+    ghost same = { spec.same_id };
+
+    ghost text = { spec.id_text };
+
+    fn is_same(&self, other: &Self) -> bool {
+        *self == *other
+    }
+
+    fn print(&self, alloc: Global) -> Result<Text, AllocError> {
+        let mut buffer = Uuid::encode_buffer();
+        Text::of(alloc, self.hyphenated().encode_lower(&mut buffer))
+    }
+}
+
+impl SectionValue for KeptRanges {
+    ghost same = { spec.same_ranges };
+
+    ghost text = { spec.ranges_text };
+
+    fn is_same(&self, other: &Self) -> bool {
+        same_ranges(self.items(), other.items())
+    }
+
+    fn print(&self, alloc: Global) -> Result<Text, AllocError> {
+        ranges_text(alloc, self.items())
+    }
+}
+
+/// Whether two lists of ranges have the same texts.
+fn same_ranges(left: &[Range], right: &[Range]) -> bool
+    ensures { result ≡ spec.same_ranges left.now right.now }
+{
+    let mut left = left;
+    let mut right = right;
+    loop {
+        let Some((range, more)) = left.split_first() else {
+            return right.split_first().is_none();
+        };
+        let Some((other, others)) = right.split_first() else {
+            return false;
+        };
+        if range.text() != other.text() {
+            return false;
+        }
+        left = more;
+        right = others;
+    }
+}
+
+/// The texts of ranges, joined by commas.
+fn ranges_text(alloc: Global, ranges: &[Range]) -> Result<Text, AllocError>
+    ensures { IfOk result (λ text. text ≡ spec.ranges_text ranges.now) }
+{
+    let [range, more @ ..] = ranges else {
+        return Text::of(alloc, "");
+    };
+    let text = with_more(alloc, range.text(), more)?;
+    Text::of(alloc, text.as_str())
+}
+
+fn with_more(alloc: Global, first: &str, more: &[Range]) -> Result<String, AllocError>
+    ensures { IfOk result (λ text. string_bytes text ≡ first.now ++ flat_map (λ r. 44 ∷ r.text) more.now) }
+{
+    let mut text = String::from_str(alloc, first)?;
+    for range in more {
+        text.push(',')?;
+        text.push_str(range.text())?;
+    }
+    Ok(text)
+}
+
+/// Two entries that give a version different values.
+#[derive(Drop)]
+struct Pair<'a, T> {
+    first: &'a Entry<T>,
+    other: &'a Entry<T>,
+}
+
+impl<'a, T> Model for Pair<'a, T> {
+    ghost use Rattle.registry_tables.specs.declared.package_rows.Entry.{Entry};
+
+    ghost Value = { Entry T × Entry T };
+
+    ghost view = { λ pair. (pair.first.now, pair.other.now) };
+}
+
+/// A version, and two entries that give it different values.
+#[derive(Drop)]
+struct Clash<'a, T> {
+    version: &'a Version,
+    pair: Pair<'a, T>,
+}
+
+impl<'a, T> Model for Clash<'a, T> {
+    ghost use Rattle.registry_tables.specs.Clash.{Clashing};
+
+    ghost Value = { Clashing T };
+
+    ghost view = { λ clash. (clash.version.now, clash.pair.0, clash.pair.1) };
+}
+
+/// Why a table is refused whose sections clash for a listed version.
+pub(crate) fn clash_in<T: SectionValue>(
+    alloc: Global,
+    versions: &[VersionRow],
+    entries: &[Entry<T>],
+) -> Result<Option<Cause>, AllocError>
+    ensures { IfOk result (λ found. found ≡ option_map (spec.clash_cause T.text) (spec.clash_in T.same versions.now entries.now)) }
+{
+    let lists = groups(alloc, entries)?;
+    match clash_among(versions, &lists) {
+        Some(clash) => Ok(Some(cause_of(alloc, &clash)?)),
+        None => Ok(None),
+    }
+}
+
+/// The least version at which a name clashes.
+fn clash_among<'a, T: SectionValue>(
+    versions: &'a [VersionRow],
+    lists: &[Group<'a, T>],
+) -> Option<Clash<'a, T>>
+    ensures { result ≡ spec.clash_among T.same versions.now lists.now }
+{
+    for row in versions {
+        if let Some(pair) = clash_at(&row.version, lists) {
+            return Some(Clash {
+                version: &row.version,
+                pair,
+            });
+        }
+    }
+    None
+}
+
+/// The least name that clashes at a version.
+fn clash_at<'a, T: SectionValue>(version: &Version, lists: &[Group<'a, T>]) -> Option<Pair<'a, T>>
+    ensures { result ≡ spec.clash_at T.same version.now lists.now }
+{
+    for group in lists {
+        if let Some(pair) = differing(version, group.items()) {
+            return Some(pair);
+        }
+    }
+    None
+}
+
+/// Of the entries of a name the first that holds the version, and the first later one that differs.
+fn differing<'a, T: SectionValue>(
+    version: &Version,
+    entries: &[&'a Entry<T>],
+) -> Option<Pair<'a, T>>
+    ensures { result ≡ spec.differing T.same version.now (map (λ e. e.now) entries.now) }
+{
+    let mut rest = entries;
+    loop {
+        let [first, more @ ..] = rest else {
+            return None;
+        };
+        if first.section.holds(version) {
+            return paired(first, other_value(version, first, more));
+        }
+        rest = more;
+    }
+}
+
+fn paired<'a, T>(first: &'a Entry<T>, other: Option<&'a Entry<T>>) -> Option<Pair<'a, T>>
+    ensures { result ≡ option_map (λ e. (first.now, e.now)) other.entry }
+{
+    match other {
+        Some(other) => Some(Pair { first, other }),
+        None => None,
+    }
+}
+
+/// The first later entry that gives the version another value.
+fn other_value<'a, T: SectionValue>(
+    version: &Version,
+    first: &Entry<T>,
+    entries: &[&'a Entry<T>],
+) -> Option<&'a Entry<T>>
+    ensures { option_map (λ e. e.now) result ≡ spec.other_value T.same version.now first.now (map (λ e. e.now) entries.now) }
+{
+    for entry in entries {
+        if entry.section.holds(version) && !first.value.is_same(&entry.value) {
+            return Some(entry);
+        }
+    }
+    None
+}
+
+fn cause_of<T: SectionValue>(alloc: Global, clash: &Clash<T>) -> Result<Cause, AllocError>
+    ensures { IfOk result (λ cause. cause ≡ spec.clash_cause T.text clash.now) }
+{
+    let first = clash.pair.first;
+    let version = clash.version.print(alloc)?;
+    Ok(Cause::Clash(
+        first.name.copy(alloc)?,
+        Text::of(alloc, version.as_str())?,
+        first.value.print(alloc)?,
+        clash.pair.other.value.print(alloc)?,
+    ))
+}

@@ -1,0 +1,217 @@
+//! The row of a version.
+ghost use Rattle.std.specs.Prelude.{◌≡◌, ◌&&◌, ◌∷◌, ◌++◌, [], true, false, not, map, filter, IfOk, OnOk, IsTrue};
+ghost use Rattle.registry_tables.specs.Row as spec;
+
+use crate::kept_ranges::KeptRanges;
+use crate::name_key::NameKey;
+use crate::package_rows::{Entry, PackageRows, RangeEntry};
+use compat_spec::Allowed;
+use jl_versions::Version;
+use pkg_world::{Duplicate, Listed, Name, NameIds, Named};
+use std::alloc::{AllocError, Global};
+use std::collections::BTreeMap;
+use uuid::Uuid;
+
+/// Names and what is allowed of each.
+pub type CompatList = Listed<(Name, Allowed)>;
+
+/// What a registry says of one version: its dependencies, its weak dependencies, and its compat.
+#[derive(Drop)]
+pub struct Row {
+    pub deps: NameIds,
+    pub weak: NameIds,
+    pub compat: CompatList,
+}
+
+/// Names with something for each.
+type NameMap<T> = BTreeMap<NameKey, T>;
+
+/// Names, each with the table of its entry, and the ranges there.
+type SpotMap = BTreeMap<(NameKey, bool), KeptRanges>;
+
+/// Julia's own identifier.
+const JULIA: [u8; 16] = [
+    0x12, 0x22, 0xc4, 0xb2, 0x21, 0x14, 0x5b, 0xfd, 0xae, 0xef, 0x88, 0xe4, 0x69, 0x2b, 0xbb, 0x3e,
+];
+
+/// The row of a version.
+pub fn expand(alloc: Global, rows: &PackageRows, version: &Version) -> Result<Row, AllocError>
+    ensures { IfOk result (spec.IsRow rows.now version.now) }
+{
+    let strong = held(alloc, rows.deps.items(), version)?;
+    let weak = held(alloc, rows.weakdeps.items(), version)?;
+    let compat = compat_of(alloc, rows, version, &strong, &weak)?;
+    Ok(Row {
+        deps: strong_ids(alloc, strong, &weak)?,
+        weak: weak_ids(alloc, weak)?,
+        compat,
+    })
+}
+
+/// The names and values of the entries whose sections hold the version.
+fn held<T: Duplicate + Drop>(
+    alloc: Global,
+    entries: &[Entry<T>],
+    version: &Version,
+) -> Result<NameMap<T>, AllocError>
+    ensures { IfOk result (λ names. names.entries ≡ spec.by_name (spec.held version.now entries.now)) }
+{
+    let mut names = BTreeMap::new(alloc);
+    for entry in entries {
+        if entry.section.holds(version) {
+            put(alloc, &mut names, &entry.name, entry.value.copy(alloc)?)?;
+        }
+    }
+    Ok(names)
+}
+
+fn put<T: Drop>(
+    alloc: Global,
+    names: &mut NameMap<T>,
+    name: &Name,
+    value: T,
+) -> Result<(), AllocError>
+    ensures { OnOk result (names.new.entries ≡ spec.put_to spec.by_bytes names.old.entries ((name.now, value) ∷ [])) }
+{
+    names.insert(NameKey::of(name.copy(alloc)?), value)?;
+    Ok(())
+}
+
+/// The dependencies that are neither weak nor Julia.
+fn strong_ids(
+    alloc: Global,
+    mut strong: NameMap<Uuid>,
+    weak: &NameMap<Uuid>,
+) -> Result<NameIds, AllocError>
+    ensures { IfOk result (λ ids. ids.items ≡ filter (λ p. spec.is_absent (spec.value_of p.0 weak.now.entries) && spec.is_package p.1) strong.entries) }
+{
+    let mut ids = Listed::make(alloc);
+    let _count = strong.len();
+    while let Some((key, id)) = strong.pop_first() {
+        if weak.get(&key).is_none() && is_package(&id) {
+            ids.push((key.into_name(), id))?;
+        }
+    }
+    Ok(Named::of(ids))
+}
+
+/// The weak dependencies that aren't Julia.
+fn weak_ids(alloc: Global, mut weak: NameMap<Uuid>) -> Result<NameIds, AllocError>
+    ensures { IfOk result (λ ids. ids.items ≡ filter (λ p. spec.is_package p.1) weak.entries) }
+{
+    let mut ids = Listed::make(alloc);
+    let _count = weak.len();
+    while let Some((key, id)) = weak.pop_first() {
+        if is_package(&id) {
+            ids.push((key.into_name(), id))?;
+        }
+    }
+    Ok(Named::of(ids))
+}
+
+/// Whether an identifier is another than Julia's.
+fn is_package(id: &Uuid) -> bool
+    ensures { result ≡ spec.is_package id.now }
+{
+    *id != Uuid::from_bytes(JULIA)
+}
+
+fn compat_of(
+    alloc: Global,
+    rows: &PackageRows,
+    version: &Version,
+    strong: &NameMap<Uuid>,
+    weak: &NameMap<Uuid>,
+) -> Result<CompatList, AllocError>
+    ensures { IfOk result (λ list. map spec.allowed_in list.items ≡ map spec.some_ranges (map (λ p. (p.0.0, p.1)) (spec.put_to spec.by_spot [] (
+        spec.counting strong.now.entries weak.now.entries version.now false rows.now.compat.items
+        ++ spec.counting strong.now.entries weak.now.entries version.now true rows.now.weakcompat.items)))) }
+{
+    let mut spots = BTreeMap::new(alloc);
+    put_counting(
+        alloc,
+        &mut spots,
+        rows.compat.items(),
+        version,
+        false,
+        strong,
+        weak,
+    )?;
+    put_counting(
+        alloc,
+        &mut spots,
+        rows.weakcompat.items(),
+        version,
+        true,
+        strong,
+        weak,
+    )?;
+    listed(alloc, spots)
+}
+
+/// Puts the entries that count for the version.
+fn put_counting(
+    alloc: Global,
+    spots: &mut SpotMap,
+    entries: &[RangeEntry],
+    version: &Version,
+    kind: bool,
+    strong: &NameMap<Uuid>,
+    weak: &NameMap<Uuid>,
+) -> Result<(), AllocError>
+    ensures { OnOk result (spots.new.entries ≡ spec.put_to spec.by_spot spots.old.entries (spec.counting strong.now.entries weak.now.entries version.now kind entries.now)) }
+{
+    for entry in entries {
+        if entry.section.holds(version) {
+            put_if_counting(alloc, spots, entry, kind, strong, weak)?;
+        }
+    }
+    Ok(())
+}
+
+fn put_if_counting(
+    alloc: Global,
+    spots: &mut SpotMap,
+    entry: &RangeEntry,
+    kind: bool,
+    strong: &NameMap<Uuid>,
+    weak: &NameMap<Uuid>,
+) -> Result<(), AllocError>
+    ensures { OnOk result (spots.new.entries ≡ spec.put_to spec.by_spot spots.old.entries (map (spec.spotted kind) (filter (λ e. spec.counts strong.now.entries weak.now.entries e.name) (entry.now ∷ [])))) }
+{
+    let key = NameKey::of(entry.name.copy(alloc)?);
+    if counts(&key, strong, weak) {
+        let ranges = KeptRanges::copy_of(alloc, &entry.value)?;
+        spots.insert((key, kind), ranges)?;
+    }
+    Ok(())
+}
+
+/// Whether compat on that name counts: it is `julia`, or the name of a dependency.
+fn counts(key: &NameKey, strong: &NameMap<Uuid>, weak: &NameMap<Uuid>) -> bool
+    ensures { result ≡ spec.counts strong.now.entries weak.now.entries key.now }
+{
+    key.as_str() == "julia" || is_dependency(key, strong, weak)
+}
+
+fn is_dependency(key: &NameKey, strong: &NameMap<Uuid>, weak: &NameMap<Uuid>) -> bool
+    ensures { result ≡ spec.is_some_package (spec.weak_or (spec.value_of key.now weak.now.entries) (spec.value_of key.now strong.now.entries)) }
+{
+    match weak.get(key) {
+        Some(id) => is_package(id),
+        None => match strong.get(key) {
+            Some(id) => is_package(id),
+            None => false,
+        },
+    }
+}
+
+fn listed(alloc: Global, mut spots: SpotMap) -> Result<CompatList, AllocError>
+    ensures { IfOk result (λ list. map spec.allowed_in list.items ≡ map spec.some_ranges (map (λ p. (p.0.0, p.1)) spots.entries)) }
+{
+    let mut list = Listed::make(alloc);
+    while let Some(((key, _), ranges)) = spots.pop_first() {
+        list.push((key.into_name(), Allowed::Ranges(ranges.into_set())))?;
+    }
+    Ok(list)
+}
