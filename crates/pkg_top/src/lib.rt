@@ -10,11 +10,15 @@ mod place;
 mod status;
 mod status_lines;
 #[cfg(test)]
+mod status_tests;
+#[cfg(test)]
 mod tests;
 mod top;
 mod verify;
 mod which;
 mod words;
+#[cfg(test)]
+mod words_tests;
 
 pub use place::{PlaceFault, place_from};
 pub use status::{Difference, Ended, Status, Told};
