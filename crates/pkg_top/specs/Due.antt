@@ -44,7 +44,7 @@ which_of files name (Ok env) = told_import name (import files env name)
 
 -- `which` of a name over the active project
 abbrev pub which_due : Files → Place → List ℕ → Result (List ℕ) Status
-which_due files place name = which_of files name (env_in files (active_file files place))
+which_due files place name = which_of files name (env_in files place (active_file files place))
 
 -- what each command is due to answer
 abbrev pub answer_of : Files → Place → Asked → Result (List ℕ) Status

@@ -44,7 +44,7 @@ fn which_in<S: Store>(
     file: &NormPath,
     store: &mut S,
 ) -> Result<String, Status>
-    ensures answer { IfSome (S.files store.old) (λ all. Answers (which_of all name.now (env_in all file.now)) result) }
+    ensures answer { IfSome (S.files store.old) (λ all. Answers (which_of all name.now (env_in all place.now file.now)) result) }
     ensures late { IfErr result IsLate }
     ensures unprinted { IfErr result IsUnprinted }
     ensures fault { IfErr result (ReadFaultRose (S.read_faults store.old) (S.read_faults store.new)) }

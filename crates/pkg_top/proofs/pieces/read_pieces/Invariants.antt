@@ -4,10 +4,10 @@ use Rattle.pkg_top.specs.Pieces as spec
 use Rattle.pkg_top.specs.Seen.{texts}
 use Rattle.pkg_top.proofs.pieces.read_pieces.Given as goal
 
-abbrev pub invariant-loop-found : goal.invariant-loop-found
-invariant-loop-found l =
+abbrev pub invariant-loop-word : goal.invariant-loop-word
+invariant-loop-word l =
     spec.pieces (option_copied l.fn.option) (option_copied l.fn.flag) false (texts l.fn.words)
     ≡ option_map (λ more. l.found.items ++ more) (spec.pieces (option_copied l.fn.option) (option_copied l.fn.flag) l.awaits (texts l.rest))
 
-abbrev pub decreases-loop-found : goal.decreases-loop-found
-decreases-loop-found l = length l.rest
+abbrev pub decreases-loop-word : goal.decreases-loop-word
+decreases-loop-word l = length l.rest
