@@ -1,6 +1,8 @@
 -- The steps of hashing a folder.
 use Rattle.std.proofs.Common.{◌≡◌, ℕ, ◌+◌, ◌<◌, nat_lt, Bool, true, false, not, ◌&&◌, ◌||◌, cond, if◌then◌else◌, List, [], ◌∷◌, ◌++◌, map, length, drop, get_or, Option, Some, None, option_map, Result, Ok, Err, MatchResult, IfSome, nat_cmp, codes, refl, ap, sym, ◌∙◌, append_assoc, arith, rules}
 use Rattle.std.specs.List.{flat_map}
+use Rattle.std.proofs.Common.{add-one}
+use Rattle.std.proofs.Math.Seq.{drop-cons}
 use Rattle.std.specs.List.Sorted.{IsStrictlySortedBy}
 use Rattle.std.specs.Str.{bytes_eq}
 use Rattle.std.specs.Cmp.Lexicographic.{slice_cmp}
@@ -161,3 +163,23 @@ refuses_on count xs ys (ReadFault path) h = tt
 refuses_on count xs ys (MissingFile path) h = h
 refuses_on count xs ys (Limit kind number) h = (refused_on count xs ys kind h.0, h.1)
 refuses_on count xs ys Memory h = tt
+
+item_out : {X Y : Type 0} (add : X → List Y) (xs : List X) (i : ℕ) (x : X) → i < length xs → x ≡ get_or xs i x → flat_map add (drop i xs) ≡ add x ++ flat_map add (drop (i + 1) xs)
+item_out add xs i x h is = rw (drop-cons xs i x, ← is, add-one)
+
+pub walk_refused : (files : Option Files) (count start depth i : ℕ) (path : Path) (runs : Path → Bool) (ns : List (List ℕ)) (x : List ℕ) (done : List TreeEntry) (fault : FolderFault) → i < length ns → x ≡ get_or ns i x
+    → IfSome files (λ all. (passed start (flat_map (seen_by depth all path) ns) ≡ passed count (flat_map (seen_by depth all path) (drop i ns))) × (flat_map (added_by runs all path) ns ≡ done ++ flat_map (added_by runs all path) (drop i ns)))
+    → IfSome files (λ all. RefusesWalk (passed count (seen_by depth all path x)) fault)
+    → IfSome files (λ all. RefusesWalk (passed start (flat_map (seen_by depth all path) ns)) fault)
+walk_refused None count start depth i path runs ns x done fault h is so walks = tt
+walk_refused (Some all) count start depth i path runs ns x done fault h is so walks =
+    rw (so.0, item_out (seen_by depth all path) ns i x h is) (refuses_on count (seen_by depth all path x) (flat_map (seen_by depth all path) (drop (i + 1) ns)) fault walks)
+
+pub walk_on : (files : Option Files) (start depth i : ℕ) (path : Path) (runs : Path → Bool) (ns : List (List ℕ)) (x : List ℕ) (old new : Found) → i < length ns → x ≡ get_or ns i x
+    → IfSome files (λ all. (passed start (flat_map (seen_by depth all path) ns) ≡ passed old.files (flat_map (seen_by depth all path) (drop i ns))) × (flat_map (added_by runs all path) ns ≡ old.entries.items ++ flat_map (added_by runs all path) (drop i ns)))
+    → IfSome files (λ all. (passed old.files (seen_by depth all path x) ≡ Ok new.files) × (new.entries.items ≡ old.entries.items ++ added_by runs all path x))
+    → IfSome files (λ all. (passed start (flat_map (seen_by depth all path) ns) ≡ passed new.files (flat_map (seen_by depth all path) (drop (i + 1) ns))) × (flat_map (added_by runs all path) ns ≡ new.entries.items ++ flat_map (added_by runs all path) (drop (i + 1) ns)))
+walk_on None start depth i path runs ns x old new h is so adds = tt
+walk_on (Some all) start depth i path runs ns x old new h is so adds =
+    (so.0 ∙ rw (item_out (seen_by depth all path) ns i x h is) (counted_on old.files new.files (seen_by depth all path x) (flat_map (seen_by depth all path) (drop (i + 1) ns)) adds.0),
+    so.1 ∙ rw (item_out (added_by runs all path) ns i x h is, adds.1) (sym (append_assoc old.entries.items (added_by runs all path x) (flat_map (added_by runs all path) (drop (i + 1) ns)))))
