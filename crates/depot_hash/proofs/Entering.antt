@@ -10,8 +10,9 @@ use Rattle.pkg_world.specs.Path.{Path, is_plain}
 use Rattle.pkg_world.specs.Tree.{Node, file, folder, Files, names, at, names_at, content_of, file_bytes, holds}
 use Rattle.pkg_world.specs.declared.cause.LimitKind.{LimitKind}
 use Rattle.depot_hash.specs.Folders as spec
-use Rattle.depot_hash.specs.Folders.{Met, a_file, a_folder, passed, is_open, file_entry, folder_entry, entries_in, entries_of, met_in, met_at, first_past}
-use Rattle.depot_hash.specs.Walks.{added_at, added_by, seen_at, seen_by, Walks, Adds, AddsFolder, IsMemory, RefusesWalk}
+use Rattle.depot_hash.specs.Folders.{Met, a_file, a_folder, passed, is_open, file_entry, folder_entry, entries_in, entries_of, met_in, met_at, first_past, within, id_at, is_among, NoId, RefusesFolder}
+use Rattle.depot_hash.specs.Trees.{tree_id}
+use Rattle.depot_hash.specs.Walks.{added_at, added_by, seen_at, seen_by, Walks, Adds, AddsFolder, IsMemory, Hashes, RefusesWalk}
 use Rattle.depot_hash.specs.declared.entries.TreeEntry.{TreeEntry}
 use Rattle.depot_hash.specs.declared.folders.Found.{Found}
 use Rattle.depot_hash.specs.declared.fault.FolderFault.{FolderFault}
@@ -183,3 +184,27 @@ walk_on None start depth i path runs ns x old new h is so adds = tt
 walk_on (Some all) start depth i path runs ns x old new h is so adds =
     (so.0 ∙ rw (item_out (seen_by depth all path) ns i x h is) (counted_on old.files new.files (seen_by depth all path x) (flat_map (seen_by depth all path) (drop (i + 1) ns)) adds.0),
     so.1 ∙ rw (item_out (added_by runs all path) ns i x h is, adds.1) (sym (append_assoc old.entries.items (added_by runs all path x) (flat_map (added_by runs all path) (drop (i + 1) ns)))))
+
+-- ---- the whole folder
+
+meant_by : (all : Files) (path : Path) (execs : List Path) (runs : Path → Bool) (ns : List (List ℕ)) → runs ≡ is_among execs → Some ns ≡ names_at (at path all) → IsStrictlySortedBy (slice_cmp nat_cmp) ns
+    → spec.folder_id all path execs ≡ within (tree_id (flat_map (added_by runs all path) ns)) (passed 0 (flat_map (seen_by 0 all path) ns))
+meant_by all path execs runs ns same there up =
+    let (files, stands, listed) = a_folder_there (at path all) ns there in
+    let rises : IsStrictlySortedBy (slice_cmp nat_cmp) (names files) = rw listed up in
+    ap (id_at (is_among execs) path) stands
+    ∙ rw (entries_by_names (is_among execs) all path files stands rises, met_by_names 0 all path files stands rises, listed, same)
+
+refused_whole : (id : List ℕ) (count : Result ℕ LimitKind) (meant : Result (List ℕ) NoId) (path : Path) (fault : FolderFault) → meant ≡ within id count → RefusesWalk count fault → RefusesFolder path meant fault
+refused_whole id count meant path (ReadFault other) is h = tt
+refused_whole id count meant path (MissingFile other) is h = absurd h
+refused_whole id count meant path (Limit kind number) is h = (is ∙ rw h.0, h.1)
+refused_whole id count meant path Memory is h = tt
+
+pub hashes_folder : (files : Option Files) (path : Path) (execs : List Path) (runs : Path → Bool) (ns : List (List ℕ)) (answer : Result (List ℕ) FolderFault) → ((p : Path) → runs p ≡ is_among execs p)
+    → IfSome files (λ all. Some ns ≡ names_at (at path all)) → IfSome files (λ all. IsStrictlySortedBy (slice_cmp nat_cmp) ns)
+    → IfSome files (λ all. Hashes (passed 0 (flat_map (seen_by 0 all path) ns)) (flat_map (added_by runs all path) ns) answer)
+    → IfSome files (λ all. MatchResult answer (λ id. spec.folder_id all path execs ≡ Ok id) (RefusesFolder path (spec.folder_id all path execs)))
+hashes_folder None path execs runs ns answer same there up hashes = tt
+hashes_folder (Some all) path execs runs ns (Ok id) same there up hashes = meant_by all path execs runs ns (λ i p. same p i) there up ∙ hashes
+hashes_folder (Some all) path execs runs ns (Err fault) same there up hashes = refused_whole _ _ _ path fault (meant_by all path execs runs ns (λ i p. same p i) there up) hashes
