@@ -1,5 +1,5 @@
 -- The steps of hashing a folder.
-use Rattle.std.proofs.Common.{◌≡◌, ℕ, ◌+◌, ◌<◌, nat_lt, Bool, true, false, not, ◌&&◌, ◌||◌, cond, if◌then◌else◌, List, [], ◌∷◌, ◌++◌, map, length, drop, get_or, Option, Some, None, option_map, Result, Ok, Err, MatchResult, IfSome, nat_cmp, codes, refl, ap, sym, ◌∙◌, append_assoc, arith, rules}
+use Rattle.std.proofs.Common.{◌≡◌, ℕ, ◌+◌, ◌<◌, Bool, true, false, not, ◌&&◌, ◌||◌, cond, List, [], ◌∷◌, ◌++◌, length, drop, get_or, Option, Some, None, Result, Ok, Err, MatchResult, IfSome, nat_cmp, codes, refl, ap, sym, ◌∙◌, append_assoc, rules}
 use Rattle.std.specs.List.{flat_map}
 use Rattle.std.proofs.Common.{add-one}
 use Rattle.std.proofs.Math.Seq.{drop-cons}
@@ -181,9 +181,10 @@ pub walk_on : (files : Option Files) (start depth i : ℕ) (path : Path) (runs :
     → IfSome files (λ all. (passed old.files (seen_by depth all path x) ≡ Ok new.files) × (new.entries.items ≡ old.entries.items ++ added_by runs all path x))
     → IfSome files (λ all. (passed start (flat_map (seen_by depth all path) ns) ≡ passed new.files (flat_map (seen_by depth all path) (drop (i + 1) ns))) × (flat_map (added_by runs all path) ns ≡ new.entries.items ++ flat_map (added_by runs all path) (drop (i + 1) ns)))
 walk_on None start depth i path runs ns x old new h is so adds = tt
-walk_on (Some all) start depth i path runs ns x old new h is so adds =
-    (so.0 ∙ rw (item_out (seen_by depth all path) ns i x h is) (counted_on old.files new.files (seen_by depth all path x) (flat_map (seen_by depth all path) (drop (i + 1) ns)) adds.0),
-    so.1 ∙ rw (item_out (added_by runs all path) ns i x h is, adds.1) (sym (append_assoc old.entries.items (added_by runs all path x) (flat_map (added_by runs all path) (drop (i + 1) ns)))))
+walk_on (Some all) start depth i path runs ns x old new h is so adds = (
+  so.0 ∙ rw (item_out (seen_by depth all path) ns i x h is) (counted_on old.files new.files (seen_by depth all path x) (flat_map (seen_by depth all path) (drop (i + 1) ns)) adds.0),
+  so.1 ∙ rw (item_out (added_by runs all path) ns i x h is, adds.1) (sym (append_assoc old.entries.items (added_by runs all path x) (flat_map (added_by runs all path) (drop (i + 1) ns)))),
+)
 
 -- ---- the whole folder
 

@@ -1,4 +1,4 @@
-use Rattle.std.proofs.Common.{◌≡◌, true, false, sym, ◌∙◌, arith}
+use Rattle.std.proofs.Common.{sym, ◌∙◌, arith}
 use Rattle.depot_hash.specs.Walks.{can_run}
 use Rattle.depot_hash.proofs.Entering.{unplain_adds, shut_adds, file_adds, folder_adds, folder_refused, walk_refused, walk_on}
 use Rattle.depot_hash.proofs.folders.+walk.Goals as goal
@@ -42,9 +42,9 @@ entries_in-returns-in-Err-clause-told g t c =
 pub entries_in-loop-name-preserved : goal.entries_in-loop-name-preserved
 entries_in-loop-name-preserved g t c = record {
   told =
-    walk_on (g.S.Store.files c.args.store.now) c.args.files c.args.depth c.loop-name.name-index c.args.folder.now (can_run c.args.execs.now) c.args.names.now c.name-item.result c.loop-name.found c.at_name.new.found
-    c.loop-name-test.true c.name-item.is c.loop-name.invariant.told (rw c.loop-name.invariant.files at c.in-Ok.ensures.told);
+      walk_on (g.S.Store.files c.args.store.now) c.args.files c.args.depth c.loop-name.name-index c.args.folder.now (can_run c.args.execs.now) c.args.names.now c.name-item.result c.loop-name.found c.at_name.new.found
+      c.loop-name-test.true c.name-item.is c.loop-name.invariant.told (rw c.loop-name.invariant.files at c.in-Ok.ensures.told);
   files = c.in-Ok.ensures.files ∙ c.loop-name.invariant.files;
   later = omega (arith, c.in-Ok.ensures.later, c.loop-name.invariant.later);
-  other = c.in-Ok.ensures.other ∙ c.loop-name.invariant.other
+  other = c.in-Ok.ensures.other ∙ c.loop-name.invariant.other;
 }
