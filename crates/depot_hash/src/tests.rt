@@ -91,6 +91,7 @@ fn checksums_are_those_of_the_standard(rt: HostRuntime) {
     assert_eq!(rt; crc32c(crc32c(0, b"1234"), b"56789"), 0xe306_9283);
     assert_eq!(rt; crc32c(0, &[0; 32]), 0x8a91_36aa);
     checksum_goes_on();
+    one_text_one_path();
 }
 
 #[test]
