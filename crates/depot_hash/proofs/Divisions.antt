@@ -1,5 +1,5 @@
 -- The long division by steps of a register.
-use Rattle.std.proofs.Common.{◌≡◌, ℕ, zero, suc, ◌+◌, ◌-◌, ◌*◌, ◌/◌, ◌%◌, ◌^◌, ◌<◌, ◌≤◌, ◌==◌, Bool, true, false, not, if◌then◌else◌, List, [], ◌∷◌, ◌++◌, map, length, replicate, refl, ap, sym, ◌∙◌, append_assoc, length-append, lit<, arith}
+use Rattle.std.proofs.Common.{◌≡◌, ℕ, zero, suc, ◌+◌, ◌-◌, ◌*◌, ◌/◌, ◌%◌, ◌^◌, ◌<◌, ◌==◌, Bool, true, false, not, if◌then◌else◌, List, [], ◌∷◌, ◌++◌, map, length, replicate, refl, ap, sym, ◌∙◌, length-append, lit<, arith}
 use Rattle.std.proofs.lemmas.List.{length-replicate}
 use Rattle.std.specs.List.{All, flat_map}
 use Rattle.std.proofs.lemmas.Bool.Decides.{nat_tests}
@@ -222,7 +222,7 @@ table_step c b h =
     let low : bit_xor (c % 2 ^ 8) b < 2 ^ 8 = xor_lt 8 (c % 2 ^ 8) b (omega arith) h in
     let whole : c ≡ bit_xor (c / 2 ^ 8 * 2 ^ 8) (c % 2 ^ 8) = omega (arith, parts_apart 8 (c / 2 ^ 8) (c % 2 ^ 8) (omega arith)) in
     let halves : bit_xor c b ≡ bit_xor (c / 2 ^ 8 * 2 ^ 8) (bit_xor (c % 2 ^ 8) b) =
-        ap (λ n. bit_xor n b) whole ∙ xor_assoc (c / 2 ^ 8 * 2 ^ 8) (c % 2 ^ 8) b in
+    ap (λ n. bit_xor n b) whole ∙ xor_assoc (c / 2 ^ 8 * 2 ^ 8) (c % 2 ^ 8) b in
     sym (ap (shifts 8) halves ∙ shifts_xor 8 (c / 2 ^ 8 * 2 ^ 8) (bit_xor (c % 2 ^ 8) b) ∙ ap (λ n. bit_xor n (shifts 8 (bit_xor (c % 2 ^ 8) b))) (high_shifts 8 (c / 2 ^ 8)))
 
 -- ---- the checksum

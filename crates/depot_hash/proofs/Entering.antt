@@ -1,6 +1,8 @@
 -- The steps of hashing a folder.
-use Rattle.std.proofs.Common.{◌≡◌, ℕ, ◌+◌, ◌<◌, nat_lt, Bool, true, false, not, ◌&&◌, ◌||◌, cond, if◌then◌else◌, List, [], ◌∷◌, ◌++◌, map, length, drop, get_or, Option, Some, None, option_map, Result, Ok, Err, MatchResult, IfSome, nat_cmp, codes, refl, ap, sym, ◌∙◌, append_assoc, arith, rules}
+use Rattle.std.proofs.Common.{◌≡◌, ℕ, ◌+◌, ◌<◌, Bool, true, false, not, ◌&&◌, ◌||◌, cond, List, [], ◌∷◌, ◌++◌, length, drop, get_or, Option, Some, None, Result, Ok, Err, MatchResult, IfSome, nat_cmp, codes, refl, ap, sym, ◌∙◌, append_assoc, rules}
 use Rattle.std.specs.List.{flat_map}
+use Rattle.std.proofs.Common.{add-one}
+use Rattle.std.proofs.Math.Seq.{drop-cons}
 use Rattle.std.specs.List.Sorted.{IsStrictlySortedBy}
 use Rattle.std.specs.Str.{bytes_eq}
 use Rattle.std.specs.Cmp.Lexicographic.{slice_cmp}
@@ -8,8 +10,9 @@ use Rattle.pkg_world.specs.Path.{Path, is_plain}
 use Rattle.pkg_world.specs.Tree.{Node, file, folder, Files, names, at, names_at, content_of, file_bytes, holds}
 use Rattle.pkg_world.specs.declared.cause.LimitKind.{LimitKind}
 use Rattle.depot_hash.specs.Folders as spec
-use Rattle.depot_hash.specs.Folders.{Met, a_file, a_folder, passed, is_open, file_entry, folder_entry, entries_in, entries_of, met_in, met_at, first_past}
-use Rattle.depot_hash.specs.Walks.{added_at, added_by, seen_at, seen_by, Walks, Adds, AddsFolder, IsMemory, RefusesWalk}
+use Rattle.depot_hash.specs.Folders.{Met, a_file, a_folder, passed, is_open, file_entry, folder_entry, entries_in, entries_of, met_in, met_at, first_past, within, id_at, is_among, NoId, RefusesFolder}
+use Rattle.depot_hash.specs.Trees.{tree_id}
+use Rattle.depot_hash.specs.Walks.{added_at, added_by, seen_at, seen_by, Walks, Adds, AddsFolder, IsMemory, Hashes, RefusesWalk}
 use Rattle.depot_hash.specs.declared.entries.TreeEntry.{TreeEntry}
 use Rattle.depot_hash.specs.declared.folders.Found.{Found}
 use Rattle.depot_hash.specs.declared.fault.FolderFault.{FolderFault}
@@ -161,3 +164,48 @@ refuses_on count xs ys (ReadFault path) h = tt
 refuses_on count xs ys (MissingFile path) h = h
 refuses_on count xs ys (Limit kind number) h = (refused_on count xs ys kind h.0, h.1)
 refuses_on count xs ys Memory h = tt
+
+item_out : {X Y : Type 0} (add : X → List Y) (xs : List X) (i : ℕ) (x : X) → i < length xs → x ≡ get_or xs i x → flat_map add (drop i xs) ≡ add x ++ flat_map add (drop (i + 1) xs)
+item_out add xs i x h is = rw (drop-cons xs i x, ← is, add-one)
+
+pub walk_refused : (files : Option Files) (count start depth i : ℕ) (path : Path) (runs : Path → Bool) (ns : List (List ℕ)) (x : List ℕ) (done : List TreeEntry) (fault : FolderFault) → i < length ns → x ≡ get_or ns i x
+    → IfSome files (λ all. (passed start (flat_map (seen_by depth all path) ns) ≡ passed count (flat_map (seen_by depth all path) (drop i ns))) × (flat_map (added_by runs all path) ns ≡ done ++ flat_map (added_by runs all path) (drop i ns)))
+    → IfSome files (λ all. RefusesWalk (passed count (seen_by depth all path x)) fault)
+    → IfSome files (λ all. RefusesWalk (passed start (flat_map (seen_by depth all path) ns)) fault)
+walk_refused None count start depth i path runs ns x done fault h is so walks = tt
+walk_refused (Some all) count start depth i path runs ns x done fault h is so walks =
+    rw (so.0, item_out (seen_by depth all path) ns i x h is) (refuses_on count (seen_by depth all path x) (flat_map (seen_by depth all path) (drop (i + 1) ns)) fault walks)
+
+pub walk_on : (files : Option Files) (start depth i : ℕ) (path : Path) (runs : Path → Bool) (ns : List (List ℕ)) (x : List ℕ) (old new : Found) → i < length ns → x ≡ get_or ns i x
+    → IfSome files (λ all. (passed start (flat_map (seen_by depth all path) ns) ≡ passed old.files (flat_map (seen_by depth all path) (drop i ns))) × (flat_map (added_by runs all path) ns ≡ old.entries.items ++ flat_map (added_by runs all path) (drop i ns)))
+    → IfSome files (λ all. (passed old.files (seen_by depth all path x) ≡ Ok new.files) × (new.entries.items ≡ old.entries.items ++ added_by runs all path x))
+    → IfSome files (λ all. (passed start (flat_map (seen_by depth all path) ns) ≡ passed new.files (flat_map (seen_by depth all path) (drop (i + 1) ns))) × (flat_map (added_by runs all path) ns ≡ new.entries.items ++ flat_map (added_by runs all path) (drop (i + 1) ns)))
+walk_on None start depth i path runs ns x old new h is so adds = tt
+walk_on (Some all) start depth i path runs ns x old new h is so adds = (
+  so.0 ∙ rw (item_out (seen_by depth all path) ns i x h is) (counted_on old.files new.files (seen_by depth all path x) (flat_map (seen_by depth all path) (drop (i + 1) ns)) adds.0),
+  so.1 ∙ rw (item_out (added_by runs all path) ns i x h is, adds.1) (sym (append_assoc old.entries.items (added_by runs all path x) (flat_map (added_by runs all path) (drop (i + 1) ns)))),
+)
+
+-- ---- the whole folder
+
+meant_by : (all : Files) (path : Path) (execs : List Path) (runs : Path → Bool) (ns : List (List ℕ)) → runs ≡ is_among execs → Some ns ≡ names_at (at path all) → IsStrictlySortedBy (slice_cmp nat_cmp) ns
+    → spec.folder_id all path execs ≡ within (tree_id (flat_map (added_by runs all path) ns)) (passed 0 (flat_map (seen_by 0 all path) ns))
+meant_by all path execs runs ns same there up =
+    let (files, stands, listed) = a_folder_there (at path all) ns there in
+    let rises : IsStrictlySortedBy (slice_cmp nat_cmp) (names files) = rw listed up in
+    ap (id_at (is_among execs) path) stands
+    ∙ rw (entries_by_names (is_among execs) all path files stands rises, met_by_names 0 all path files stands rises, listed, same)
+
+refused_whole : (id : List ℕ) (count : Result ℕ LimitKind) (meant : Result (List ℕ) NoId) (path : Path) (fault : FolderFault) → meant ≡ within id count → RefusesWalk count fault → RefusesFolder path meant fault
+refused_whole id count meant path (ReadFault other) is h = tt
+refused_whole id count meant path (MissingFile other) is h = absurd h
+refused_whole id count meant path (Limit kind number) is h = (is ∙ rw h.0, h.1)
+refused_whole id count meant path Memory is h = tt
+
+pub hashes_folder : (files : Option Files) (path : Path) (execs : List Path) (runs : Path → Bool) (ns : List (List ℕ)) (answer : Result (List ℕ) FolderFault) → ((p : Path) → runs p ≡ is_among execs p)
+    → IfSome files (λ all. Some ns ≡ names_at (at path all)) → IfSome files (λ all. IsStrictlySortedBy (slice_cmp nat_cmp) ns)
+    → IfSome files (λ all. Hashes (passed 0 (flat_map (seen_by 0 all path) ns)) (flat_map (added_by runs all path) ns) answer)
+    → IfSome files (λ all. MatchResult answer (λ id. spec.folder_id all path execs ≡ Ok id) (RefusesFolder path (spec.folder_id all path execs)))
+hashes_folder None path execs runs ns answer same there up hashes = tt
+hashes_folder (Some all) path execs runs ns (Ok id) same there up hashes = meant_by all path execs runs ns (λ i p. same p i) there up ∙ hashes
+hashes_folder (Some all) path execs runs ns (Err fault) same there up hashes = refused_whole _ _ _ path fault (meant_by all path execs runs ns (λ i p. same p i) there up) hashes

@@ -1,5 +1,5 @@
 -- The entries of a tree at their places, and names that come twice.
-use Rattle.std.proofs.Common.{◌≡◌, ℕ, ◌+◌, ◌<◌, nat_lt, Bool, true, false, cond, if◌then◌else◌, ◌⊎◌, inl, inr, List, [], ◌∷◌, map, length, take, get_or, count_by, Option, Some, None, Ordering, nat_cmp, refl, ap, sym, ◌∙◌, arith, rules}
+use Rattle.std.proofs.Common.{◌≡◌, ℕ, ◌+◌, ◌<◌, nat_lt, Bool, true, false, cond, if◌then◌else◌, ◌⊎◌, inl, inr, List, [], ◌∷◌, length, take, get_or, count_by, Option, Some, None, Ordering, nat_cmp, refl, ap, sym, ◌∙◌, arith, rules}
 use Rattle.std.specs.Borrow.{Bor}
 use Rattle.std.specs.List.{flat_map}
 use Rattle.std.specs.Map.{values_of}
@@ -9,7 +9,6 @@ use Rattle.std.specs.Ordering.{is_lt, match_ordering, ordering_reverse}
 use Rattle.std.specs.declared.cmp.Ordering.TheVariants.{Less, Equal, Greater}
 use Rattle.std.specs.Str.{bytes_eq}
 use Rattle.std.specs.Cmp.Lexicographic.{slice_cmp, nat_list_cmp_total}
-use Rattle.std.specs.Cmp.{IsTotalOrder}
 use Rattle.std.proofs.lemmas.Bool.{both_ways}
 use Rattle.std.proofs.lemmas.Bool.Decides.{nat_tests}
 use Rattle.std.proofs.lemmas.List.Sums.{sum_by_more}
@@ -59,11 +58,13 @@ first_kept p q same (Some first) h = (same first ∙ h.0, λ other passes. h.1 o
 
 lesser_of : (p q : List ℕ → Bool) (x first : List ℕ) (below : Bool) → is_lt (slice_cmp nat_cmp x first) ≡ below → q x ≡ true → ((name : List ℕ) → q name ≡ true → (p name ≡ true) ⊎ (name ≡ x))
     → ((name : List ℕ) → p name ≡ true → q name ≡ true) → IsFirst p (Some first) → IsFirst q (Some (if below then x else first))
-lesser_of p q x first true is new more kept h =
-    (new, λ other passes. elim (more other passes) [
-      | inl old ↦ not_below _ (λ less. both_ways _ (h.1 other old) (below_through other x first less is))
-      | inr same ↦ rw same (below_itself x)
-    ])
+lesser_of p q x first true is new more kept h = (
+  new,
+  λ other passes. elim (more other passes) [
+    | inl old ↦ not_below _ (λ less. both_ways _ (h.1 other old) (below_through other x first less is))
+    | inr same ↦ rw same (below_itself x)
+  ],
+)
 lesser_of p q x first false is new more kept h =
     (kept first h.0, λ other passes. elim (more other passes) [ inl old ↦ h.1 other old | inr same ↦ rw same is ])
 
@@ -117,7 +118,7 @@ pub first_if_met : (entries : List TreeEntry) (i : ℕ) (e : TreeEntry) (first :
 first_if_met entries i e first h is met before =
     let itself : bytes_eq e.name e.name ≡ true = search (rules, bytes_eq-Decides) in
     let more : count_by (λ entry. bytes_eq entry.name e.name) (take (i + 1) entries) ≡ count_by (λ entry. bytes_eq entry.name e.name) (take i entries) + 1 =
-        counted entries i e e.name h is ∙ rw itself in
+    counted entries i e e.name h is ∙ rw itself in
     let twice : comes_twice (take (i + 1) entries) e.name ≡ true = grind (arith, nat_tests) in
     first_more (comes_twice (take i entries)) (comes_twice (take (i + 1) entries)) e.name
     twice

@@ -4,3 +4,4 @@ pub mod Keys
 pub mod Finding
 pub mod Walking
 pub mod Entering
+pub mod Texts

@@ -1,22 +1,18 @@
 -- Going over the names in a folder.
-use Rattle.std.proofs.Common.{◌≡◌, ℕ, ◌+◌, ◌<◌, nat_lt, Bool, true, false, if◌then◌else◌, List, [], ◌∷◌, ◌++◌, map, length, drop, get_or, Option, Some, None, option_map, Result, Ok, Err, MatchResult, IfSome, Ordering, nat_cmp, refl, ap, sym, ◌∙◌, subst, append_assoc, arith}
+use Rattle.std.proofs.Common.{◌≡◌, ℕ, ◌+◌, nat_lt, Bool, true, false, if◌then◌else◌, List, [], ◌∷◌, ◌++◌, Option, Some, None, Ok, Err, Ordering, nat_cmp, refl, ap, ◌∙◌}
 use Rattle.std.specs.List.{flat_map, AllByRecursion}
 use Rattle.std.specs.List.Sorted.{IsStrictlySortedBy}
 use Rattle.std.specs.Option.{option_and_then}
-use Rattle.std.specs.Ordering.{match_ordering, ordering_reverse}
+use Rattle.std.specs.Ordering.{ordering_reverse}
 use Rattle.std.specs.declared.cmp.Ordering.TheVariants.{Less, Equal, Greater}
 use Rattle.std.specs.Cmp.Lexicographic.{slice_cmp, nat_list_cmp_total}
-use Rattle.pkg_world.specs.Path.{Path, is_plain}
-use Rattle.pkg_world.specs.Tree.{Node, file, folder, Files, no_files, entry, find, names, files_in, below, at, names_at, Content, bytes, a_folder, nothing, content_of, file_bytes, holds}
+use Rattle.pkg_world.specs.Path.{Path}
+use Rattle.pkg_world.specs.Tree.{Node, file, folder, Files, no_files, entry, find, names, files_in, below, at}
 use Rattle.pkg_world.specs.declared.cause.LimitKind.{LimitKind}
 use Rattle.pkg_world.specs.declared.cause.LimitKind.TheVariants.{TreeDepth, TreeFiles}
 use Rattle.depot_hash.specs.Folders as spec
 use Rattle.depot_hash.specs.Folders.{Met, a_file, passed, entries_in, entries_of, met_in, met_at, first_past}
-use Rattle.depot_hash.specs.Walks.{added_at, added_by, seen_at, seen_by, Walks, Adds, RefusesWalk}
-use Rattle.depot_hash.specs.declared.entries.TreeEntry.{TreeEntry}
-use Rattle.depot_hash.specs.declared.folders.Found.{Found}
-use Rattle.depot_hash.specs.declared.fault.FolderFault.{FolderFault}
-use Rattle.depot_hash.specs.declared.fault.FolderFault.TheVariants.{ReadFault, MissingFile, Limit, Memory}
+use Rattle.depot_hash.specs.Walks.{added_at, added_by, seen_at, seen_by}
 
 -- ---- a folder by its names
 

@@ -1,5 +1,5 @@
 -- Git's ids of objects (Git's object format).
-use Rattle.std.specs.Prelude.{ℕ, List, [], ◌∷◌, ◌++◌, length, codes, decimal}
+use Rattle.std.specs.Prelude.{ℕ, List, ◌∷◌, ◌++◌, length, codes, decimal}
 use Rattle.sha1.specs.Sha1.{sha1}
 
 -- an object's id: the SHA-1 of its kind, a space, the number of its bytes, a zero byte, and the bytes

@@ -1,10 +1,8 @@
 -- Which faults a call answers.
 use Rattle.std.specs.Prelude.{◌≡◌, ℕ}
-use Rattle.pkg_world.specs.Path.{Path}
 use Rattle.pkg_world.specs.Outside.{Rose}
 use Rattle.pkg_world.specs.declared.asking.Unread.{Unread}
 use Rattle.pkg_world.specs.declared.asking.Unread.TheVariants.{Failed, Memory as UnreadMemory}
-use Rattle.pkg_world.specs.declared.cause.LimitKind.{LimitKind}
 use Rattle.depot_hash.specs.declared.fault.FolderFault.{FolderFault}
 use Rattle.depot_hash.specs.declared.fault.FolderFault.TheVariants.{ReadFault, MissingFile, Limit, Memory}
 

@@ -1,6 +1,6 @@
 -- The tree of a folder: every file, and every folder in which, at some depth, a counted file is (Git's object format).
 -- Folders named `.git` are not looked into. A name that is no plain part can't stand in a path, and is passed over.
-use Rattle.std.specs.Prelude.{◌≡◌, ℕ, suc, ◌+◌, nat_lt, ◌==◌, Bool, true, false, not, ◌&&◌, if◌then◌else◌, List, [], ◌∷◌, ◌++◌, Option, Some, None, Result, Ok, Err, MatchResult, codes}
+use Rattle.std.specs.Prelude.{◌≡◌, ℕ, ◌+◌, nat_lt, Bool, not, ◌&&◌, if◌then◌else◌, List, [], ◌∷◌, ◌++◌, Option, Some, None, Result, Ok, Err, codes}
 use Rattle.std.specs.List.{list_any}
 use Rattle.std.specs.Str.{bytes_eq}
 use Rattle.pkg_world.specs.Path.{Path, is_plain, path_text}
@@ -10,7 +10,6 @@ use Rattle.pkg_world.specs.declared.cause.LimitKind.TheVariants.{Packages, State
 use Rattle.depot_hash.specs.Blobs.{blob_id}
 use Rattle.depot_hash.specs.Trees.{tree_id}
 use Rattle.depot_hash.specs.declared.entries.TreeEntry.{TreeEntry}
-use Rattle.depot_hash.specs.declared.entries.Mode.{Mode}
 use Rattle.depot_hash.specs.declared.entries.Mode.TheVariants.{File, Exec, Folder}
 use Rattle.depot_hash.specs.declared.fault.FolderFault.{FolderFault}
 use Rattle.depot_hash.specs.declared.fault.FolderFault.TheVariants.{ReadFault, MissingFile, Limit, Memory}

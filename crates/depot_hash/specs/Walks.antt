@@ -1,12 +1,12 @@
 -- What the steps of hashing a folder cite.
-use Rattle.std.specs.Prelude.{◌≡◌, ℕ, ◌+◌, ◌==◌, Bool, not, List, [], ◌∷◌, ◌++◌, Option, Some, None, Result, Ok, Err, MatchResult, String, Vec}
-use Rattle.std.specs.List.{flat_map, list_all}
+use Rattle.std.specs.Prelude.{◌≡◌, ℕ, ◌==◌, Bool, not, List, [], ◌∷◌, ◌++◌, Option, Some, None, Result, Ok, Err, MatchResult, String}
+use Rattle.std.specs.List.{list_all}
 use Rattle.std.specs.BTreeSet.{BTreeSet, contains_text}
 use Rattle.std.specs.declared.alloc.Global.{Global}
 use Rattle.pkg_world.specs.Path.{Path, path_text}
 use Rattle.pkg_world.specs.Tree.{Node, Files, at}
 use Rattle.pkg_world.specs.declared.cause.LimitKind.{LimitKind}
-use Rattle.depot_hash.specs.Folders.{Met, entries_of, met_at, folder_entry, within, NoId, first_past}
+use Rattle.depot_hash.specs.Folders.{Met, entries_of, met_at, folder_entry, within, first_past}
 use Rattle.depot_hash.specs.Trees.{tree_id}
 use Rattle.depot_hash.specs.declared.entries.TreeEntry.{TreeEntry}
 use Rattle.depot_hash.specs.declared.folders.Found.{Found}

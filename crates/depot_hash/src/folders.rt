@@ -14,7 +14,9 @@ use crate::entries::{Mode, TreeEntry};
 use crate::fault::{FolderFault, unread};
 use crate::objects::blob_id;
 use crate::trees::id_of;
-use pkg_world::{Duplicate, LimitKind, Name, NormPath, NormPaths, Store, TreeId, file_at, names_in};
+use pkg_world::{
+    Duplicate, LimitKind, Name, NormPath, NormPaths, Store, TreeId, file_at, names_in,
+};
 use std::alloc::{AllocError, Global};
 use std::collections::BTreeSet;
 

@@ -36,8 +36,16 @@ impl<'a> Ord for GitKey<'a> {
     ghost matches_eq = { λ _ _. refl };
 
     fn cmp(&self, other: &Self) -> Ordering {
-        let left = self.name.as_bytes().iter().chain(self.slash.as_bytes().iter());
-        let right = other.name.as_bytes().iter().chain(other.slash.as_bytes().iter());
+        let left = self
+            .name
+            .as_bytes()
+            .iter()
+            .chain(self.slash.as_bytes().iter());
+        let right = other
+            .name
+            .as_bytes()
+            .iter()
+            .chain(other.slash.as_bytes().iter());
         left.cmp(right)
     }
 }

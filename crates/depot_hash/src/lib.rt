@@ -10,13 +10,15 @@ mod laws;
 mod objects;
 mod packages;
 mod slugs;
+#[cfg(test)]
+mod tests;
 mod trees;
 
 pub use checksum::crc32c;
 pub use entries::{Mode, TreeEntry, TreeFault};
 pub use fault::FolderFault;
 pub use folders::folder_id;
-pub use laws::checksum_goes_on;
+pub use laws::{checksum_goes_on, one_text_one_path};
 pub use objects::blob_id;
 pub use packages::installed;
 pub use slugs::{slug, slug_text, slug4};

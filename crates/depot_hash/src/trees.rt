@@ -52,7 +52,12 @@ fn lesser<'a>(first: Option<&'a Name>, name: &'a Name) -> &'a Name
 {
     match first {
         Some(first) => {
-            if name.as_str().as_bytes().cmp(first.as_str().as_bytes()).is_lt() {
+            if name
+                .as_str()
+                .as_bytes()
+                .cmp(first.as_str().as_bytes())
+                .is_lt()
+            {
                 name
             } else {
                 first
@@ -86,10 +91,7 @@ fn by_key<'a>(
 }
 
 /// The entries as a tree holds them.
-fn body_of(
-    alloc: Global,
-    placed: &BTreeMap<GitKey<'_>, &TreeEntry>,
-) -> Result<Vec<u8>, AllocError>
+fn body_of(alloc: Global, placed: &BTreeMap<GitKey<'_>, &TreeEntry>) -> Result<Vec<u8>, AllocError>
     ensures { IfOk result (λ body. body.items ≡ flat_map spec.line (values_of (seen placed.now.entries))) }
 {
     let mut body = Vec::new(alloc);

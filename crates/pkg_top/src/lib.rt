@@ -7,6 +7,7 @@ mod home;
 mod offers;
 mod pieces;
 mod place;
+mod stanza_line;
 mod status;
 mod status_lines;
 #[cfg(test)]

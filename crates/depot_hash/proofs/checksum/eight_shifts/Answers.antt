@@ -1,4 +1,4 @@
-use Rattle.std.proofs.Common.{◌≡◌, arith}
+use Rattle.std.proofs.Common.{arith}
 use Rattle.depot_hash.proofs.StepTable.{step_at}
 use Rattle.depot_hash.proofs.checksum.eight_shifts.Goals as goal
 

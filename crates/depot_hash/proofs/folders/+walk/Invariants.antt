@@ -19,9 +19,9 @@ decreases-enter g l = 4 * (64 - l.depth)
 abbrev pub invariant-entries_in-loop-name : goal.invariant-entries_in-loop-name
 invariant-entries_in-loop-name g l = record {
   told : IfSome (g.S.Store.files l.fn.store) (λ all.
-    (passed l.files (flat_map (seen_by l.depth all l.folder) l.names) ≡ passed l.found.files (flat_map (seen_by l.depth all l.folder) (drop l.name-index l.names)))
-    × (flat_map (added_by (can_run l.execs) all l.folder) l.names ≡ l.found.entries.items ++ flat_map (added_by (can_run l.execs) all l.folder) (drop l.name-index l.names)));
+      (passed l.files (flat_map (seen_by l.depth all l.folder) l.names) ≡ passed l.found.files (flat_map (seen_by l.depth all l.folder) (drop l.name-index l.names)))
+      × (flat_map (added_by (can_run l.execs) all l.folder) l.names ≡ l.found.entries.items ++ flat_map (added_by (can_run l.execs) all l.folder) (drop l.name-index l.names)));
   files : g.S.Store.files l.store ≡ g.S.Store.files l.fn.store;
   later : g.S.Store.read_faults l.fn.store ≤ g.S.Store.read_faults l.store;
-  other : g.S.Store.write_faults l.store ≡ g.S.Store.write_faults l.fn.store
+  other : g.S.Store.write_faults l.store ≡ g.S.Store.write_faults l.fn.store;
 }

@@ -8,5 +8,5 @@ invariant-loop-depot g l = record {
   told : IfSome (g.S.Store.files l.fn.store) (λ all. first_there all (below_depots l.depot-items l.fn.name l.fn.slug) ≡ first_there all (below_depots (drop l.depot-index l.depot-items) l.fn.name l.fn.slug));
   files : g.S.Store.files l.store ≡ g.S.Store.files l.fn.store;
   later : g.S.Store.read_faults l.fn.store ≤ g.S.Store.read_faults l.store;
-  other : g.S.Store.write_faults l.store ≡ g.S.Store.write_faults l.fn.store
+  other : g.S.Store.write_faults l.store ≡ g.S.Store.write_faults l.fn.store;
 }

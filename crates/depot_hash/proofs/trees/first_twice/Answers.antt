@@ -1,8 +1,7 @@
-use Rattle.std.proofs.Common.{◌≡◌, length, take, sym, ◌∙◌, arith}
+use Rattle.std.proofs.Common.{◌≡◌, take, sym, ◌∙◌, arith}
 use Rattle.std.proofs.lemmas.Grind.{common_steps}
 use Rattle.std.proofs.lemmas.Bool.{not-true, not-false}
 use Rattle.std.specs.Option.{option_copied}
-use Rattle.depot_hash.specs.Trees.{IsFirstTwice}
 use Rattle.depot_hash.proofs.Keys.{met_more, first_if_new, first_if_met}
 use Rattle.depot_hash.proofs.trees.first_twice.Goals as goal
 use Rattle.depot_hash.proofs.trees.first_twice.Goals.{then-not-branch, else-not-branch}
@@ -23,7 +22,7 @@ loop-entry-preserved c =
         | else-not-branch w ↦
             let new = not-true _ (sym added ∙ w.if-not-branch.false) in
             rw w.first-is (first_if_new c.args.entries.now i e (option_copied c.loop-entry.first) c.loop-entry-test.true c.entry-item.is (sym met ∙ new) before)
-      ]
+      ];
     }
 
 pub returns : goal.returns
