@@ -97,4 +97,3 @@ fn with_more(alloc: Global, first: &str, more: &[Range]) -> Result<String, Alloc
     }
     Ok(text)
 }
-
