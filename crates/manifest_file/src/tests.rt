@@ -218,92 +218,75 @@ fn told(alloc: Global, fault: &ManifestFault) -> Result<String, AllocError> {
     }
 }
 
-const F: &str = "manifest_format = \"2.0\"\n";
-
-const U1: &str = "uuid = \"00000000-0000-4000-8000-000000000001\"\n";
+/// Files that are refused, with the refusal.
+const REFUSED: [(&str, &str); 19] = [
+    ("[[deps.A", "BadToml"),
+    (
+        "a = [[[[[[[[[[[[[[[[[[[[[[[[[[[[[[[[[[[[[[[[[[[[[[[[[[[[[[[[[[[[[[[[]]]]]]]]]]]]]]]]]]]]]]]]]]]]]]]]]]]]]]]]]]]]]]]]]]]]]]]]]]]]]]]]",
+        "Deep",
+    ),
+    ("x = 1", "BadShape manifest_format"),
+    ("manifest_format = \"2.\"", "BadShape manifest_format"),
+    ("manifest_format = 2.0", "BadShape manifest_format"),
+    ("manifest_format = 1\ndeps = 1", "BadShape deps"),
+    (
+        "manifest_format = \"2.0\"\njulia_version = \"1.x\"",
+        "BadVersion julia_version 2",
+    ),
+    (
+        "manifest_format = \"2.0\"\n[[deps.A]]\nversion = \"1\"",
+        "BadShape deps.A.uuid",
+    ),
+    (
+        "manifest_format = \"2.0\"\n[[deps.A]]\nuuid = \"00000000-0000-4000-8000-000000000001\"\nversion = \"1.2.\"",
+        "BadVersion deps.A.version 4",
+    ),
+    (
+        "manifest_format = \"2.0\"\n[[deps.A]]\nuuid = \"00000000-0000-4000-8000-000000000001\"\nrepo-url = \"u\"",
+        "BadShape deps.A.git-tree-sha1",
+    ),
+    (
+        "manifest_format = \"2.0\"\n[[deps.A]]\nuuid = \"00000000-0000-4000-8000-000000000001\"\ngit-tree-sha1 = \"12\"",
+        "BadShape deps.A.git-tree-sha1",
+    ),
+    (
+        "manifest_format = \"2.0\"\n[[deps.A]]\nuuid = \"00000000-0000-4000-8000-000000000001\"\npath = \"p\"\nrepo-rev = 1",
+        "BadShape deps.A.repo-rev",
+    ),
+    (
+        "manifest_format = \"2.0\"\n[[deps.A]]\nuuid = \"00000000-0000-4000-8000-000000000001\"\npinned = \"yes\"",
+        "BadShape deps.A.pinned",
+    ),
+    (
+        "manifest_format = \"2.0\"\n[[deps.A]]\nuuid = \"00000000-0000-4000-8000-000000000001\"\n[deps.A.extensions]\nE = 1",
+        "BadShape deps.A.extensions.E",
+    ),
+    (
+        "manifest_format = \"2.0\"\n[[deps.A]]\nuuid = \"00000000-0000-4000-8000-000000000001\"\n[[deps.B]]\nuuid = \"00000000-0000-4000-8000-000000000001\"\n",
+        "SameUuid 1",
+    ),
+    (
+        "manifest_format = \"2.0\"\n[[deps.A]]\ndeps = [\"Q\"]\nuuid = \"00000000-0000-4000-8000-000000000001\"\n[[deps.B]]\nuuid = \"00000000-0000-4000-8000-000000000001\"\n",
+        "SameUuid 1",
+    ),
+    (
+        "manifest_format = \"2.0\"\n[[deps.A]]\nuuid = \"00000000-0000-4000-8000-000000000001\"\ndeps = [\"Q\"]",
+        "Dangling A Q",
+    ),
+    (
+        "manifest_format = \"2.0\"\n[[deps.A]]\ndeps = [\"Q\"]\nuuid = \"00000000-0000-4000-8000-000000000003\"\n[[deps.Q]]\nuuid = \"00000000-0000-4000-8000-000000000001\"\n[[deps.Q]]\nuuid = \"00000000-0000-4000-8000-000000000002\"\n",
+        "Unclear A Q",
+    ),
+    (
+        "manifest_format = \"2.0\"\n[[deps.A]]\nuuid = \"00000000-0000-4000-8000-000000000001\"\nweakdeps = [\"R\"]\ndeps = [\"Q\"]",
+        "Dangling A Q",
+    ),
+];
 
 #[test]
 fn each_refusal_names_its_place(rt: HostRuntime) -> Result<(), Fail> {
-    for (parts, want) in [
-        (["[[deps.A", "", "", "", ""], "BadToml"),
-        (
-            [
-                "a = [[[[[[[[[[[[[[[[[[[[[[[[[[[[[[[[[[[[[[[[[[[[[[[[[[[[[[[[[[[[[[[[",
-                "]]]]]]]]]]]]]]]]]]]]]]]]]]]]]]]]]]]]]]]]]]]]]]]]]]]]]]]]]]]]]]]]",
-                "",
-                "",
-                "",
-            ],
-            "Deep",
-        ),
-        (["x = 1", "", "", "", ""], "BadShape manifest_format"),
-        (
-            ["manifest_format = \"2.\"", "", "", "", ""],
-            "BadShape manifest_format",
-        ),
-        (
-            ["manifest_format = 2.0", "", "", "", ""],
-            "BadShape manifest_format",
-        ),
-        (
-            ["manifest_format = 1\n", "deps = 1", "", "", ""],
-            "BadShape deps",
-        ),
-        (
-            [F, "julia_version = \"1.x\"", "", "", ""],
-            "BadVersion julia_version 2",
-        ),
-        (
-            [F, "[[deps.A]]\n", "version = \"1\"", "", ""],
-            "BadShape deps.A.uuid",
-        ),
-        (
-            [F, "[[deps.A]]\n", U1, "version = \"1.2.\"", ""],
-            "BadVersion deps.A.version 4",
-        ),
-        (
-            [F, "[[deps.A]]\n", U1, "repo-url = \"u\"", ""],
-            "BadShape deps.A.git-tree-sha1",
-        ),
-        (
-            [F, "[[deps.A]]\n", U1, "git-tree-sha1 = \"12\"", ""],
-            "BadShape deps.A.git-tree-sha1",
-        ),
-        (
-            [F, "[[deps.A]]\n", U1, "path = \"p\"\n", "repo-rev = 1"],
-            "BadShape deps.A.repo-rev",
-        ),
-        (
-            [F, "[[deps.A]]\n", U1, "pinned = \"yes\"", ""],
-            "BadShape deps.A.pinned",
-        ),
-        (
-            [F, "[[deps.A]]\n", U1, "[deps.A.extensions]\n", "E = 1"],
-            "BadShape deps.A.extensions.E",
-        ),
-        ([F, "[[deps.A]]\n", U1, "[[deps.B]]\n", U1], "SameUuid 1"),
-        (
-            [F, "[[deps.A]]\ndeps = [\"Q\"]\n", U1, "[[deps.B]]\n", U1],
-            "SameUuid 1",
-        ),
-        (
-            [F, "[[deps.A]]\n", U1, "deps = [\"Q\"]", ""],
-            "Dangling A Q",
-        ),
-        (
-            [
-                F,
-                "[[deps.A]]\ndeps = [\"Q\"]\nuuid = \"00000000-0000-4000-8000-000000000003\"\n",
-                "[[deps.Q]]\n",
-                U1,
-                "[[deps.Q]]\nuuid = \"00000000-0000-4000-8000-000000000002\"\n",
-            ],
-            "Unclear A Q",
-        ),
-    ] {
-        let [a, b, c, d, e] = parts;
-        let text = format!(in rt.alloc(); "{a}{b}{c}{d}{e}")?;
-        assert_eq!(rt; refusal(rt.alloc(), text.as_str())?.as_str(), want);
+    for (text, want) in REFUSED {
+        assert_eq!(rt; refusal(rt.alloc(), text)?.as_str(), want);
     }
     Ok(())
 }
