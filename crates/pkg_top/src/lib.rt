@@ -11,6 +11,8 @@ mod stanza_line;
 mod status;
 mod status_lines;
 #[cfg(test)]
+mod status_lines_tests;
+#[cfg(test)]
 mod status_tests;
 #[cfg(test)]
 mod tests;
