@@ -84,17 +84,23 @@ fn dependencies_and_stanzas_are_told(rt: HostRuntime) -> Result<(), Fail> {
     let alloc = rt.alloc();
     let place = place_with(alloc, "/p", None)?;
     let all = told_over(alloc, &place, "status --all", PROJECT, [MANIFEST, PACKED])?;
-    assert_eq!(rt; all.as_str(), "0 project /p/Project.toml\n\
+    assert_eq!(rt;
+        all.as_str(),
+        "0 project /p/Project.toml\n\
         Dates 00000000-0000-4000-8000-000000000030 1.11.0 std\n\
         Lib 00000000-0000-4000-8000-000000000002 0.3.0 path ../lib pinned\n\
         Q 00000000-0000-4000-8000-000000000005 1.0.0 registered\n\
-        packed /d/registries/General.tar.gz\n|");
+        packed /d/registries/General.tar.gz\n|"
+    );
     let deps = told_over(alloc, &place, "status", PROJECT, [MANIFEST, PACKED])?;
-    assert_eq!(rt; deps.as_str(), "0 project /p/Project.toml\n\
+    assert_eq!(rt;
+        deps.as_str(),
+        "0 project /p/Project.toml\n\
         Dates 00000000-0000-4000-8000-000000000030 1.11.0 std\n\
         Lib 00000000-0000-4000-8000-000000000002 0.3.0 path ../lib pinned\n\
         Nix 00000000-0000-4000-8000-000000000004 - missing\n\
-        packed /d/registries/General.tar.gz\n|");
+        packed /d/registries/General.tar.gz\n|"
+    );
     Ok(())
 }
 
@@ -152,7 +158,11 @@ fn the_active_project_is_what_its_text_means(rt: HostRuntime) -> Result<(), Fail
     for (text, path) in TEXTS {
         let place = place_at(alloc, text)?;
         let mut store = MemStore::make(alloc)?;
-        fill(alloc, &mut store, [(path, ""), ("/p/Project.toml", "")].as_slice())?;
+        fill(
+            alloc,
+            &mut store,
+            [(path, ""), ("/p/Project.toml", "")].as_slice(),
+        )?;
         let told = told(alloc, "status", &place, &mut store)?;
         let want = format!(in alloc; "0 project {path}\n|")?;
         assert_eq!(rt; told.as_str(), want.as_str(), "{text}");

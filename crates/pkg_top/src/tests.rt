@@ -192,7 +192,11 @@ const REFUSED: [(File, &str); 23] = [
     (LIB_ABOVE, "BadShape deps.Lib.path"),
 ];
 
-pub(crate) fn fill<S: Store>(alloc: Global, store: &mut S, files: &[File]) -> Result<(), PathFault> {
+pub(crate) fn fill<S: Store>(
+    alloc: Global,
+    store: &mut S,
+    files: &[File],
+) -> Result<(), PathFault> {
     for (path, text) in files {
         let path = NormPath::join(alloc, &NormPath::root(alloc), path)?;
         let _ = store.replace(alloc, &path, text.as_bytes());
@@ -232,7 +236,11 @@ pub(crate) fn told<S: Store>(
 }
 
 /// The place of the folder `/p`, with a project text and a load path.
-pub(crate) fn place_with(alloc: Global, project: &str, load_path: Option<&str>) -> Result<Place, PlaceFault> {
+pub(crate) fn place_with(
+    alloc: Global,
+    project: &str,
+    load_path: Option<&str>,
+) -> Result<Place, PlaceFault> {
     place_from(
         alloc,
         "/p",
