@@ -12,6 +12,8 @@ mod status;
 mod status_lines;
 #[cfg(test)]
 mod tests;
+#[cfg(test)]
+mod tests_verify;
 mod top;
 mod verify;
 mod which;
