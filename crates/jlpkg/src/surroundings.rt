@@ -33,7 +33,7 @@ impl From<AllocError> for Refusal {
 }
 
 /// The words of the command, and the place that its environment gives: `JULIA_DEPOT_PATH` or `HOME`, `JULIA_LOAD_PATH`,
-/// `JULIA_PROJECT` and `JLPKG_STDLIB`.
+/// `JULIA_PROJECT`, `JLPKG_STDLIB` and `JLPKG_JULIA`.
 pub fn read_surroundings<R: Env + AllocGlobal>(rt: &R) -> Result<Surroundings, Refusal> {
     let words = words(rt)?;
     let cwd = current_folder(rt)?;
@@ -76,6 +76,7 @@ fn place<R: Env + AllocGlobal>(rt: &R, cwd: &str) -> Result<Place, Refusal> {
     let load_path = variable(rt, "JULIA_LOAD_PATH")?;
     let project = variable(rt, "JULIA_PROJECT")?;
     let stdlib = variable(rt, "JLPKG_STDLIB")?;
+    let julia = variable(rt, "JLPKG_JULIA")?;
     match place_from(
         rt.alloc(),
         cwd,
@@ -84,12 +85,21 @@ fn place<R: Env + AllocGlobal>(rt: &R, cwd: &str) -> Result<Place, Refusal> {
         text_of(&load_path),
         text_of(&project),
         text_of(&stdlib),
-        None,
+        text_of(&julia),
     ) {
         Ok(place) => Ok(place),
         Err(PlaceFault::BadPath(text)) => Err(Refusal::BadPlace(text)),
-        Err(PlaceFault::BadJulia(_)) => Err(Refusal::NotText),
+        Err(PlaceFault::BadJulia(_)) => Err(bad_julia(rt.alloc(), &julia)),
         Err(PlaceFault::Memory) => Err(Refusal::Memory),
+    }
+}
+
+/// The refusal of Julia's text.
+fn bad_julia(alloc: Global, julia: &Option<String>) -> Refusal {
+    let text = text_of(julia).unwrap_or("-");
+    match Text::of(alloc, text) {
+        Ok(text) => Refusal::BadPlace(text),
+        Err(_) => Refusal::Memory,
     }
 }
 

@@ -7,3 +7,4 @@ pub mod Chains
 pub mod Steps
 pub mod Sorting
 pub mod Answers
+pub mod Written

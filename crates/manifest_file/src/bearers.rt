@@ -1,10 +1,13 @@
 //! Who bears a name.
-ghost use Rattle.std.specs.Prelude.{◌≡◌, List, ℕ, IfOk, OnOk, Some, cond, if◌then◌else◌};
+ghost use Rattle.std.specs.Prelude.{◌≡◌, List, ℕ, IfOk, OnOk, Some, cond, map, if◌then◌else◌};
 ghost use Rattle.std.specs.Str.{bytes_eq};
 ghost use Rattle.manifest_file.specs.Saying as spec;
+ghost use Rattle.manifest_file.specs.Said.{said_stanza};
 ghost use Rattle.manifest_file.specs.Sorting.{bearers_by};
+ghost use Rattle.manifest_file.specs.Written.{bearers_among, one_more as spec_one_more};
 
 use crate::entry::Entry;
+use crate::stanza::Stanza;
 use pkg_world::{Name, Values};
 use std::alloc::{AllocError, Global};
 use std::collections::BTreeMap;
@@ -50,6 +53,32 @@ fn bearers_of(stanzas: &[Entry]) -> Bearers
         [] => Bearers::Nobody,
         [stanza] => Bearers::One(stanza.uuid),
         _ => Bearers::Several,
+    }
+}
+
+/// Who bears each name among some stanzas.
+pub(crate) fn index_of_stanzas(alloc: Global, stanzas: &[Stanza]) -> Result<Index, AllocError>
+    ensures { IfOk result (λ index. (q : List ℕ) → bearers_by index q ≡ bearers_among (map said_stanza stanzas.now) q) }
+{
+    let mut index = BTreeMap::new(alloc);
+    let mut left = stanzas.len();
+    while left > 0 {
+        left -= 1;
+        let stanza = &stanzas[left];
+        let name = stanza.name.as_str();
+        let bearers = one_more(stanza.uuid, named(&index, name));
+        add(alloc, &mut index, name, bearers)?;
+    }
+    Ok(index)
+}
+
+fn one_more(id: Uuid, bearers: Bearers) -> Bearers
+    ensures { result ≡ spec_one_more id bearers }
+{
+    match bearers {
+        Bearers::Nobody => Bearers::One(id),
+        Bearers::One(_) => Bearers::Several,
+        Bearers::Several => Bearers::Several,
     }
 }
 

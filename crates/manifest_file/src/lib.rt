@@ -8,16 +8,21 @@ mod entry_reader;
 mod fault;
 mod file;
 mod format;
+mod grouping;
 mod identifiers;
 mod listed;
 mod manifest;
 mod origin;
+mod origin_values;
+mod put;
 mod readers;
 mod resolving;
 mod sorting;
 mod stanza;
+mod stanza_table;
 #[cfg(test)]
 mod tests;
+mod written;
 
 pub use fault::ManifestFault;
 pub use manifest::Manifest;

@@ -1,21 +1,27 @@
 //! A manifest.
-ghost use Rattle.std.specs.Prelude.{◌≡◌, Ok, MatchResult, IfOk, unwrap_or, []};
+ghost use Rattle.std.specs.Prelude.{◌≡◌, Ok, MatchResult, IfOk, IsTrue, unwrap_or, []};
 ghost use Rattle.toml.specs.View.{table_view};
 ghost use Rattle.toml_view.specs.Document.{viewed};
 ghost use Rattle.manifest_file.specs.Saying.{read_of, manifest_of, of_view, resolved, resolved_names};
 ghost use Rattle.manifest_file.specs.Said.{said};
+ghost use Rattle.manifest_file.specs.Sorting.{bearers_by};
+ghost use Rattle.manifest_file.specs.Written.{are_by_name, written, written_by};
 ghost use Rattle.manifest_file.specs.Steps.{Reads, Refuses, StopFault, ViewFaultIs};
 
+use crate::bearers::{Index, index_of_stanzas};
 use crate::entry::Entries;
 use crate::fault::ManifestFault;
 use crate::file::read_file;
+use crate::grouping::stanzas_value;
 use crate::identifiers::no_id_twice;
+use crate::put::{put, put_some};
 use crate::resolving::all_resolved;
 use crate::stanza::Stanzas;
+use crate::written::version_value;
 use jl_versions::Version;
 use pkg_world::{Listed, Text};
 use std::alloc::{AllocError, Global};
-use toml_view::{Flaw, Refusal, Stop, Table, ViewFault, view};
+use toml_view::{Flaw, Refusal, Stop, Table, Value, ViewFault, view};
 
 /// What a manifest says (Pkg, Manifest.toml, format 2.0): the stanzas by the bytes of their names, and then as they stand in
 /// the file.
@@ -39,9 +45,35 @@ impl Manifest {
             Err(fault) => Err(unviewed(fault)),
         }
     }
+
+    /// The table that says the manifest, in format 2.0. Dependencies are a list of names where each name has exactly one
+    /// stanza, which has the identifier, and else a table; what is empty, absent or false isn't written. The caller's
+    /// stanzas stand in the order of their names' bytes. The one error is want of memory.
+    pub fn to_table(&self, alloc: Global) -> Result<Table, AllocError>
+        requires by_name { IsTrue (are_by_name (said self.now).stanzas) }
+        ensures { IfOk result (λ table. table_view table ≡ written (said self.now)) }
+    {
+        let index = index_of_stanzas(alloc, self.stanzas.items())?;
+        self.table_by(alloc, &index)
+    }
+
+    /// The table, where the index tells who bears each name.
+    fn table_by(&self, alloc: Global, index: &Index) -> Result<Table, AllocError>
+        requires { IsTrue (are_by_name (said self.now).stanzas) }
+        ensures { IfOk result (λ table. table_view table ≡ written_by (bearers_by index.now) (said self.now)) }
+    {
+        let mut table = Table::new(alloc);
+        let format = Value::string(alloc, "2.0")?;
+        put(alloc, &mut table, "manifest_format", format)?;
+        let julia = version_value(alloc, &self.julia_version)?;
+        put_some(alloc, &mut table, "julia_version", julia)?;
+        let stanzas = stanzas_value(alloc, index, self.stanzas.items())?;
+        put(alloc, &mut table, "deps", stanzas)?;
+        Ok(table)
+    }
 }
 
-fn of_table(alloc: Global, table: &Table) -> Result<Manifest, ManifestFault>
+pub(crate) fn of_table(alloc: Global, table: &Table) -> Result<Manifest, ManifestFault>
     ensures { Reads said (manifest_of (table_view table.now)) result }
 {
     match read_file(alloc, table) {

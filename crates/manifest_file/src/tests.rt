@@ -1,8 +1,14 @@
 //! What no clause says: that reading succeeds, and examples of its answers.
+ghost use Rattle.std.specs.Prelude.{IfOk, IsTrue};
+ghost use Rattle.manifest_file.specs.Said.{said};
+ghost use Rattle.manifest_file.specs.Written.{are_by_name};
+
 use super::*;
-use pkg_world::{Duplicate, NameIds};
+use jl_versions::Version;
+use pkg_world::{Duplicate, ExtList, Listed, Name, NameIds};
 use std::alloc::{AllocError, Global};
 use std::test::Fail;
+use uuid::Uuid;
 
 /// A manifest as Pkg writes it, with a stanza of every kind.
 const FULL: &str = "julia_version = \"1.11.2\"\nmanifest_format = \"2.0\"\nproject_hash = \"x\"\n\n\
@@ -77,19 +83,94 @@ fn extensions_have_their_triggers_and_a_repository_its_parts(rt: HostRuntime) ->
     assert_eq!(rt; first.as_str(), "LibMoreExt");
     assert_eq!(rt; triggers.items().len(), 2);
     assert!(rt; stanzas[3].version.is_none());
-    match stanzas[4].origin.copy(rt.alloc())? {
-        Origin::Repo {
-            url,
-            rev,
-            subdir,
-            tree,
-        } => {
-            assert_eq!(rt; url.as_str(), "https://example.org/W.git");
-            assert!(rt; rev.is_some() && subdir.is_some());
-            assert_eq!(rt; tree.bytes()[19], 255);
-        }
-        _ => assert!(rt; false),
+    let origin = stanzas[4].origin.copy(rt.alloc())?;
+    assert_eq!(rt;
+        parts(rt.alloc(), &origin)?.as_str(),
+        "https://example.org/W.git main sub 255"
+    );
+    Ok(())
+}
+
+/// The parts of a repository.
+fn parts(alloc: Global, origin: &Origin) -> Result<String, AllocError> {
+    let Origin::Repo {
+        url,
+        rev: Some(rev),
+        subdir: Some(subdir),
+        tree,
+    } = origin
+    else {
+        return String::from_str(alloc, "none");
+    };
+    let last = tree.bytes()[19];
+    format!(in alloc; "{url} {rev} {subdir} {last}")
+}
+
+/// What is shown of the stanzas.
+fn shown_all(alloc: Global, manifest: &Manifest) -> Result<String, AllocError> {
+    let mut text = String::new(alloc);
+    for stanza in manifest.stanzas.items() {
+        push_shown(alloc, &mut text, stanza)?;
     }
+    Ok(text)
+}
+
+fn push_shown(alloc: Global, text: &mut String, stanza: &Stanza) -> Result<(), AllocError> {
+    let last = stanza.uuid.as_bytes()[15];
+    let origin = kind(&stanza.origin);
+    let pinned = stanza.pinned;
+    let deps = shown(alloc, &stanza.deps)?;
+    let weak = shown(alloc, &stanza.weakdeps)?;
+    let extensions = stanza.extensions.items().len();
+    let version = stanza.version.is_some();
+    let name = stanza.name.as_str();
+    write!(
+        text,
+        "{name} {last} {origin} {pinned} {version} {extensions} {deps}, {weak}\n"
+    )
+}
+
+/// A manifest of one pinned stanza, whose optional dependency isn't there.
+fn lone(alloc: Global) -> Result<Manifest, AllocError>
+    ensures { IfOk result (λ m. IsTrue (are_by_name (said m).stanzas)) }
+{
+    let mut list = Vec::new(alloc);
+    list.push(stanza(alloc)?)?;
+    Ok(Manifest {
+        julia_version: None,
+        stanzas: Listed::of_vec(list),
+    })
+}
+
+fn stanza(alloc: Global) -> Result<Stanza, AllocError> {
+    Ok(Stanza {
+        name: Name::of(alloc, "A")?,
+        uuid: Uuid::NAMESPACE_DNS,
+        version: Some(Version::of(alloc, [1, 2, 3])),
+        origin: Origin::Path(Name::of(alloc, "../a")?),
+        pinned: true,
+        deps: NameIds::make(alloc),
+        weakdeps: weak(alloc)?,
+        extensions: ExtList::make(alloc),
+    })
+}
+
+fn weak(alloc: Global) -> Result<NameIds, AllocError> {
+    let mut ids = NameIds::make(alloc);
+    ids.push((Name::of(alloc, "Q")?, Uuid::NAMESPACE_URL))?;
+    Ok(ids)
+}
+
+#[test]
+fn what_is_written_is_read_again(rt: HostRuntime) -> Result<(), Fail> {
+    let manifest = lone(rt.alloc())?;
+    let table = manifest.to_table(rt.alloc())?;
+    let again = crate::manifest::of_table(rt.alloc(), &table)?;
+    assert_eq!(rt; again.stanzas.items().len(), 1);
+    assert_eq!(rt;
+        shown_all(rt.alloc(), &again)?.as_str(),
+        "A 200 path true true 0 , Q200 \n"
+    );
     Ok(())
 }
 
@@ -137,92 +218,75 @@ fn told(alloc: Global, fault: &ManifestFault) -> Result<String, AllocError> {
     }
 }
 
-const F: &str = "manifest_format = \"2.0\"\n";
-
-const U1: &str = "uuid = \"00000000-0000-4000-8000-000000000001\"\n";
+/// Files that are refused, with the refusal.
+const REFUSED: [(&str, &str); 19] = [
+    ("[[deps.A", "BadToml"),
+    (
+        "a = [[[[[[[[[[[[[[[[[[[[[[[[[[[[[[[[[[[[[[[[[[[[[[[[[[[[[[[[[[[[[[[[]]]]]]]]]]]]]]]]]]]]]]]]]]]]]]]]]]]]]]]]]]]]]]]]]]]]]]]]]]]]]]]]",
+        "Deep",
+    ),
+    ("x = 1", "BadShape manifest_format"),
+    ("manifest_format = \"2.\"", "BadShape manifest_format"),
+    ("manifest_format = 2.0", "BadShape manifest_format"),
+    ("manifest_format = 1\ndeps = 1", "BadShape deps"),
+    (
+        "manifest_format = \"2.0\"\njulia_version = \"1.x\"",
+        "BadVersion julia_version 2",
+    ),
+    (
+        "manifest_format = \"2.0\"\n[[deps.A]]\nversion = \"1\"",
+        "BadShape deps.A.uuid",
+    ),
+    (
+        "manifest_format = \"2.0\"\n[[deps.A]]\nuuid = \"00000000-0000-4000-8000-000000000001\"\nversion = \"1.2.\"",
+        "BadVersion deps.A.version 4",
+    ),
+    (
+        "manifest_format = \"2.0\"\n[[deps.A]]\nuuid = \"00000000-0000-4000-8000-000000000001\"\nrepo-url = \"u\"",
+        "BadShape deps.A.git-tree-sha1",
+    ),
+    (
+        "manifest_format = \"2.0\"\n[[deps.A]]\nuuid = \"00000000-0000-4000-8000-000000000001\"\ngit-tree-sha1 = \"12\"",
+        "BadShape deps.A.git-tree-sha1",
+    ),
+    (
+        "manifest_format = \"2.0\"\n[[deps.A]]\nuuid = \"00000000-0000-4000-8000-000000000001\"\npath = \"p\"\nrepo-rev = 1",
+        "BadShape deps.A.repo-rev",
+    ),
+    (
+        "manifest_format = \"2.0\"\n[[deps.A]]\nuuid = \"00000000-0000-4000-8000-000000000001\"\npinned = \"yes\"",
+        "BadShape deps.A.pinned",
+    ),
+    (
+        "manifest_format = \"2.0\"\n[[deps.A]]\nuuid = \"00000000-0000-4000-8000-000000000001\"\n[deps.A.extensions]\nE = 1",
+        "BadShape deps.A.extensions.E",
+    ),
+    (
+        "manifest_format = \"2.0\"\n[[deps.A]]\nuuid = \"00000000-0000-4000-8000-000000000001\"\n[[deps.B]]\nuuid = \"00000000-0000-4000-8000-000000000001\"\n",
+        "SameUuid 1",
+    ),
+    (
+        "manifest_format = \"2.0\"\n[[deps.A]]\ndeps = [\"Q\"]\nuuid = \"00000000-0000-4000-8000-000000000001\"\n[[deps.B]]\nuuid = \"00000000-0000-4000-8000-000000000001\"\n",
+        "SameUuid 1",
+    ),
+    (
+        "manifest_format = \"2.0\"\n[[deps.A]]\nuuid = \"00000000-0000-4000-8000-000000000001\"\ndeps = [\"Q\"]",
+        "Dangling A Q",
+    ),
+    (
+        "manifest_format = \"2.0\"\n[[deps.A]]\ndeps = [\"Q\"]\nuuid = \"00000000-0000-4000-8000-000000000003\"\n[[deps.Q]]\nuuid = \"00000000-0000-4000-8000-000000000001\"\n[[deps.Q]]\nuuid = \"00000000-0000-4000-8000-000000000002\"\n",
+        "Unclear A Q",
+    ),
+    (
+        "manifest_format = \"2.0\"\n[[deps.A]]\nuuid = \"00000000-0000-4000-8000-000000000001\"\nweakdeps = [\"R\"]\ndeps = [\"Q\"]",
+        "Dangling A Q",
+    ),
+];
 
 #[test]
 fn each_refusal_names_its_place(rt: HostRuntime) -> Result<(), Fail> {
-    for (parts, want) in [
-        (["[[deps.A", "", "", "", ""], "BadToml"),
-        (
-            [
-                "a = [[[[[[[[[[[[[[[[[[[[[[[[[[[[[[[[[[[[[[[[[[[[[[[[[[[[[[[[[[[[[[[[",
-                "]]]]]]]]]]]]]]]]]]]]]]]]]]]]]]]]]]]]]]]]]]]]]]]]]]]]]]]]]]]]]]]]",
-                "",
-                "",
-                "",
-            ],
-            "Deep",
-        ),
-        (["x = 1", "", "", "", ""], "BadShape manifest_format"),
-        (
-            ["manifest_format = \"2.\"", "", "", "", ""],
-            "BadShape manifest_format",
-        ),
-        (
-            ["manifest_format = 2.0", "", "", "", ""],
-            "BadShape manifest_format",
-        ),
-        (
-            ["manifest_format = 1\n", "deps = 1", "", "", ""],
-            "BadShape deps",
-        ),
-        (
-            [F, "julia_version = \"1.x\"", "", "", ""],
-            "BadVersion julia_version 2",
-        ),
-        (
-            [F, "[[deps.A]]\n", "version = \"1\"", "", ""],
-            "BadShape deps.A.uuid",
-        ),
-        (
-            [F, "[[deps.A]]\n", U1, "version = \"1.2.\"", ""],
-            "BadVersion deps.A.version 4",
-        ),
-        (
-            [F, "[[deps.A]]\n", U1, "repo-url = \"u\"", ""],
-            "BadShape deps.A.git-tree-sha1",
-        ),
-        (
-            [F, "[[deps.A]]\n", U1, "git-tree-sha1 = \"12\"", ""],
-            "BadShape deps.A.git-tree-sha1",
-        ),
-        (
-            [F, "[[deps.A]]\n", U1, "path = \"p\"\n", "repo-rev = 1"],
-            "BadShape deps.A.repo-rev",
-        ),
-        (
-            [F, "[[deps.A]]\n", U1, "pinned = \"yes\"", ""],
-            "BadShape deps.A.pinned",
-        ),
-        (
-            [F, "[[deps.A]]\n", U1, "[deps.A.extensions]\n", "E = 1"],
-            "BadShape deps.A.extensions.E",
-        ),
-        ([F, "[[deps.A]]\n", U1, "[[deps.B]]\n", U1], "SameUuid 1"),
-        (
-            [F, "[[deps.A]]\ndeps = [\"Q\"]\n", U1, "[[deps.B]]\n", U1],
-            "SameUuid 1",
-        ),
-        (
-            [F, "[[deps.A]]\n", U1, "deps = [\"Q\"]", ""],
-            "Dangling A Q",
-        ),
-        (
-            [
-                F,
-                "[[deps.A]]\ndeps = [\"Q\"]\nuuid = \"00000000-0000-4000-8000-000000000003\"\n",
-                "[[deps.Q]]\n",
-                U1,
-                "[[deps.Q]]\nuuid = \"00000000-0000-4000-8000-000000000002\"\n",
-            ],
-            "Unclear A Q",
-        ),
-    ] {
-        let [a, b, c, d, e] = parts;
-        let text = format!(in rt.alloc(); "{a}{b}{c}{d}{e}")?;
-        assert_eq!(rt; refusal(rt.alloc(), text.as_str())?.as_str(), want);
+    for (text, want) in REFUSED {
+        assert_eq!(rt; refusal(rt.alloc(), text)?.as_str(), want);
     }
     Ok(())
 }

@@ -1,5 +1,5 @@
 -- The depots of a depot path so far, and those of the rest.
-use Rattle.std.proofs.Common.{◌≡◌, List, [], ◌∷◌, ◌++◌, Ok, Err, refl, ap, sym, ◌∙◌, append_assoc, append-nil}
+use Rattle.std.proofs.Common.{◌≡◌, List, [], ◌++◌, Ok, Err, refl, ap, sym, ◌∙◌, append_assoc, append-nil}
 use Rattle.pkg_world.specs.Path.{Path}
 use Rattle.pkg_top.specs.Placing.{Placed, then_placed, after}
 

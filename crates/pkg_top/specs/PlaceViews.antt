@@ -3,7 +3,7 @@ use Rattle.std.specs.Prelude.{◌≡◌, ℕ, List, Result, Ok, MatchResult}
 use Rattle.pkg_world.specs.Path.{Path}
 use Rattle.pkg_world.specs.Listing.{Listing}
 use Rattle.pkg_top.specs.declared.place.PlaceFault.{PlaceFault}
-use Rattle.pkg_top.specs.Placing.{Placed, after, depot_of, RefusesPlaced}
+use Rattle.pkg_top.specs.Placing.{after, depot_of, RefusesPlaced}
 
 abbrev pub itself : {T : Type 0} → T → T
 itself value = value

@@ -1,5 +1,5 @@
 -- The definitions' values that the private types of the code stand for.
-use Rattle.std.specs.Prelude.{◌≡◌, ℕ, List, map, String, string_bytes, Option, Some, None, Result, MatchResult}
+use Rattle.std.specs.Prelude.{◌≡◌, List, map, String, string_bytes, None, Result, MatchResult}
 use Rattle.std.specs.declared.alloc.Global.{Global}
 use Rattle.pkg_top.specs.declared.words.Asked as code
 use Rattle.pkg_top.specs.declared.words.Asked.TheVariants.{Which, Offers, Status as StatusWords, Verify, BadWords, NotBuilt}

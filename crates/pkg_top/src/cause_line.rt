@@ -48,12 +48,7 @@ pub(crate) fn plain_uuid(alloc: Global, uuid: &Uuid) -> Result<String, AllocErro
     String::from_str(alloc, uuid.hyphenated().encode_lower(&mut buffer))
 }
 
-fn placed_text(
-    alloc: Global,
-    name: &str,
-    keys: &str,
-    place: u64,
-) -> Result<String, AllocError>
+fn placed_text(alloc: Global, name: &str, keys: &str, place: u64) -> Result<String, AllocError>
     ensures { IfOk result (λ text. string_bytes text ≡ two name.now (two keys.now (decimal place))) }
 {
     format!(in alloc; "{name} {keys} {place}")
@@ -69,7 +64,13 @@ fn clash_text(
     ensures { IfOk result (λ text. string_bytes text ≡ two (codes "Clash") (two name.now (two version.now (two first.now second.now)))) }
 {
     let values = two_words(alloc, first.as_str(), second.as_str())?;
-    four_words(alloc, "Clash", name.as_str(), version.as_str(), values.as_str())
+    four_words(
+        alloc,
+        "Clash",
+        name.as_str(),
+        version.as_str(),
+        values.as_str(),
+    )
 }
 
 fn four_words(

@@ -1,5 +1,5 @@
 //! What is refused by words and place alone.
-ghost use Rattle.std.specs.Prelude.{◌≡◌, Some, Err, true, IfErr};
+ghost use Rattle.std.specs.Prelude.{◌≡◌, ℕ, List, Some, Err, true, IfErr};
 ghost use Rattle.std.specs.Option.{option_copied};
 ghost use Rattle.pkg_top.specs.Due as spec;
 ghost use Rattle.pkg_top.specs.Seen.{AsksFor, texts};
@@ -40,7 +40,7 @@ fn not_built(alloc: Global, word: &str) -> Status
 /// The refusal of what is not built, after words and place.
 pub(crate) fn not_built_late(alloc: Global, word: &str) -> Status
     requires { is_late_word word.now ≡ true }
-    ensures refusal { Refuses (Err (Status.NotBuilt word.now)) result }
+    ensures refusal { Refuses {T = List ℕ} (Err (Status.NotBuilt word.now)) result }
     ensures late { IsLate result }
     ensures unprinted { IsUnprinted result }
     ensures fault { NoFault result }

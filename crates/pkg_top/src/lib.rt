@@ -11,6 +11,10 @@ mod stanza_line;
 mod status;
 mod status_lines;
 #[cfg(test)]
+mod status_lines_tests;
+#[cfg(test)]
+mod status_tests;
+#[cfg(test)]
 mod tests;
 #[cfg(test)]
 mod tests_verify;
@@ -18,6 +22,8 @@ mod top;
 mod verify;
 mod which;
 mod words;
+#[cfg(test)]
+mod words_tests;
 
 pub use place::{PlaceFault, place_from};
 pub use status::{Difference, Ended, Status, Told};

@@ -70,11 +70,7 @@ fn unless_awaiting(awaits: bool, found: Vec<Piece>) -> Option<Vec<Piece>>
     if awaits { None } else { Some(found) }
 }
 
-fn push_operands(
-    alloc: Global,
-    found: &mut Vec<Piece>,
-    words: &[String],
-) -> Result<(), AllocError>
+fn push_operands(alloc: Global, found: &mut Vec<Piece>, words: &[String]) -> Result<(), AllocError>
     ensures { OnOk result (found.new.items ≡ found.old.items ++ map Operand (texts words.now)) }
 {
     for word in words {

@@ -143,12 +143,7 @@ fn bad_file_line(alloc: Global, path: &NormPath, cause: &Cause) -> Result<String
 }
 
 /// The line of a status that carries two values.
-fn two_carried(
-    alloc: Global,
-    head: &str,
-    first: &str,
-    second: &str,
-) -> Result<String, AllocError>
+fn two_carried(alloc: Global, head: &str, first: &str, second: &str) -> Result<String, AllocError>
     ensures { IfOk result (λ line. string_bytes line ≡ line_with head.now (two first.now second.now)) }
 {
     let carried = two_words(alloc, first, second)?;

@@ -8,7 +8,7 @@ use std::alloc::{AllocError, Global};
 use std::test::Fail;
 
 /// A path and the text of the file there.
-type File = (&'static str, &'static str);
+pub(crate) type File = (&'static str, &'static str);
 
 const APP: File = (
     "/p/Project.toml",
@@ -70,7 +70,7 @@ const FOUND_ELSEWHERE: &str = "0 Lib 00000000-0000-4000-8000-000000000002 /p/sub
 const LIB_NO_SOURCE: &str = "5 |error 5 NoSource 00000000-0000-4000-8000-000000000002\n";
 
 /// Words over the project with its entry file, and the code with what is printed on either side.
-const WORDS: [(&str, &str); 9] = [
+const WORDS: [(&str, &str); 8] = [
     ("which App", FOUND_APP),
     ("which -- App", FOUND_APP),
     ("which Nope", "4 |error 4 NoIdentity Nope\n"),
@@ -79,7 +79,6 @@ const WORDS: [(&str, &str); 9] = [
     ("frob", "2 |error 2 BadWords frob\n"),
     ("", "2 |error 2 BadWords -\n"),
     ("which App --from X", "17 |error 17 NotBuilt --from\n"),
-    ("offers A", "17 |error 17 NotBuilt offers\n"),
 ];
 
 /// Files beside the project's own, and what `which App` prints.
@@ -193,7 +192,11 @@ const REFUSED: [(File, &str); 23] = [
     (LIB_ABOVE, "BadShape deps.Lib.path"),
 ];
 
-fn fill<S: Store>(alloc: Global, store: &mut S, files: &[File]) -> Result<(), PathFault> {
+pub(crate) fn fill<S: Store>(
+    alloc: Global,
+    store: &mut S,
+    files: &[File],
+) -> Result<(), PathFault> {
     for (path, text) in files {
         let path = NormPath::join(alloc, &NormPath::root(alloc), path)?;
         let _ = store.replace(alloc, &path, text.as_bytes());
@@ -219,7 +222,7 @@ fn seen(alloc: Global, ended: &Ended, out: &[u8], err: &[u8]) -> Result<String, 
 }
 
 /// What a command prints.
-fn told<S: Store>(
+pub(crate) fn told<S: Store>(
     alloc: Global,
     command: &str,
     place: &Place,
@@ -233,7 +236,11 @@ fn told<S: Store>(
 }
 
 /// The place of the folder `/p`, with a project text and a load path.
-fn place_with(alloc: Global, project: &str, load_path: Option<&str>) -> Result<Place, PlaceFault> {
+pub(crate) fn place_with(
+    alloc: Global,
+    project: &str,
+    load_path: Option<&str>,
+) -> Result<Place, PlaceFault> {
     place_from(
         alloc,
         "/p",
@@ -247,7 +254,7 @@ fn place_with(alloc: Global, project: &str, load_path: Option<&str>) -> Result<P
 }
 
 /// What a command prints over a project file and two more files.
-fn told_over(
+pub(crate) fn told_over(
     alloc: Global,
     place: &Place,
     command: &str,
@@ -261,7 +268,7 @@ fn told_over(
 }
 
 #[test]
-fn words_are_read(rt: HostRuntime) -> Result<(), Fail> {
+fn words_are_answered(rt: HostRuntime) -> Result<(), Fail> {
     let alloc = rt.alloc();
     let place = place_with(alloc, "/p", None)?;
     for (command, want) in WORDS {
@@ -333,8 +340,8 @@ fn refused_files_are_named_with_their_cause(rt: HostRuntime) -> Result<(), Fail>
 fn places_that_are_not_built_are_refused(rt: HostRuntime) -> Result<(), Fail> {
     let alloc = rt.alloc();
     for (project, load_path, want) in [
-        ("@", None, "17 |error 17 NotBuilt project\n"),
-        ("@", Some(""), "17 |error 17 NotBuilt project\n"),
+        ("@", None, "4 |error 4 NoIdentity App\n"),
+        ("@", Some(""), "17 |error 17 NotBuilt load_path\n"),
         ("/p", Some(""), "17 |error 17 NotBuilt load_path\n"),
         ("/p/Project.toml", None, FOUND_APP),
         ("", None, FOUND_APP),
@@ -437,7 +444,7 @@ type Texts = (
     Option<&'static str>,
 );
 
-const PLACES: [(Texts, &str); 9] = [
+const PLACES: [(Texts, &str); 11] = [
     (
         ("/p", Some("/h"), Some("/d"), None, None),
         "/p depots /d stdlib - @v#.# /q 1.11.0",
@@ -454,14 +461,22 @@ const PLACES: [(Texts, &str); 9] = [
         ("/p", None, Some(":d1::/d2:"), None, None),
         "/p depots /p/d1 /d2 stdlib - @v#.# /q 1.11.0",
     ),
-    (("/..", None, Some("/d"), None, Some("1")), "no path /.."),
+    (("/..", None, Some("/d"), None, Some("1.")), "no path /.."),
     (("/p", Some("../.."), None, None, None), "no path ../.."),
     (
         ("/p", None, Some("/d:../..:/.."), None, None),
         "no path ../..",
     ),
     (("/p", None, None, Some("/../s"), None), "no path /../s"),
-    (("/p", None, None, None, Some("1.11.2")), "no Julia 0"),
+    (
+        ("/p", None, None, None, Some("1.11.2")),
+        "/p depots stdlib - @v#.# /q 1.11.2",
+    ),
+    (
+        ("/p", None, None, None, Some("v1.12-rc1+2")),
+        "/p depots stdlib - @v#.# /q 1.12.0",
+    ),
+    (("/p", None, None, None, Some("1.")), "no Julia 2"),
 ];
 
 fn place_text(alloc: Global, place: &Place) -> Result<String, AllocError> {

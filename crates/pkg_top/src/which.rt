@@ -1,5 +1,5 @@
 //! `which`: the identity and the entry file of a name over the active project.
-ghost use Rattle.std.specs.Prelude.{◌≡◌, ◌≤◌, Err, Some, IfSome, IfOk, IfErr, string_bytes};
+ghost use Rattle.std.specs.Prelude.{◌≡◌, ◌≤◌, ℕ, List, Err, Some, IfSome, IfOk, IfErr, string_bytes};
 ghost use Rattle.env_maps.specs.Active.{active_file};
 ghost use Rattle.env_maps.specs.Maps.{path_of, env_in};
 ghost use Rattle.pkg_top.specs.Import.{by_path, by_identity, import as import_meant};
@@ -83,7 +83,7 @@ fn import<S: Store>(
 }
 
 fn no_identity(alloc: Global, name: &Name) -> Status
-    ensures refusal { Refuses (Err (Status.NoIdentity name.now)) result }
+    ensures refusal { Refuses {T = List ℕ} (Err (Status.NoIdentity name.now)) result }
     ensures late { IsLate result }
     ensures unprinted { IsUnprinted result }
     ensures fault { NoFault result }

@@ -119,11 +119,7 @@ fn is_extensions(word: &str) -> bool
 }
 
 /// What a built command is asked; None where its words break the rules, or the command is no built one.
-fn built_words(
-    alloc: Global,
-    command: &str,
-    rest: &[String],
-) -> Result<Option<Asked>, AllocError>
+fn built_words(alloc: Global, command: &str, rest: &[String]) -> Result<Option<Asked>, AllocError>
     ensures { IfOk result (λ asked. option_map asked_of asked ≡ spec.built_words command.now (texts rest.now)) }
 {
     if command == "which" {

@@ -2,8 +2,8 @@
 -- looked for at the least version, and there at the least name by its bytes. It carries the entry of the first section
 -- that gives the version the name, and the first later one whose value differs.
 --     clash_in same versions entries     the clash of a table, where there is one
-use Rattle.std.specs.Prelude.{ℕ, Bool, true, false, not, ◌&&◌, if◌then◌else◌, List, [], ◌∷◌, ◌++◌, map, fold, find, Option, Some, None, option_map}
-use Rattle.std.specs.List.{flat_map}
+use Rattle.std.specs.Prelude.{ℕ, Bool, true, false, not, ◌&&◌, if◌then◌else◌, List, [], ◌∷◌, ◌++◌, map, filter, fold, find, Option, Some, None, option_map}
+use Rattle.std.specs.List.{flat_map, list_any}
 use Rattle.std.specs.Option.{unwrap_or}
 use Rattle.std.specs.BTreeMap.{insert_entry}
 use Rattle.std.specs.Str.{bytes_eq}
@@ -27,8 +27,14 @@ joining groups entry = insert_entry by_bytes groups entry.name (unwrap_or (value
 abbrev pub grouped : {T : Type 0} → List (Entry T) → List (List ℕ × List (Entry T))
 grouped entries = fold joining [] entries
 
-abbrev pub groups : {T : Type 0} → List (Entry T) → List (List (Entry T))
-groups entries = map (λ g. g.1) (grouped entries)
+-- whether a name has several values: no other name can clash
+abbrev pub is_varied : {T : Type 0} → (T → T → Bool) → List (Entry T) → Bool
+is_varied same [] = false
+is_varied same (first ∷ entries) = list_any (λ e. not (same first.value e.value)) entries
+
+-- the entries of each name that has several values
+abbrev pub groups : {T : Type 0} → (T → T → Bool) → List (Entry T) → List (List (Entry T))
+groups same entries = filter (is_varied same) (map (λ g. g.1) (grouped entries))
 
 -- ---- the clash
 
@@ -62,7 +68,7 @@ module _ {T : Type 0} (same : T → T → Bool) where
   clash_among (row ∷ rows) gs = or_later (option_map (λ p. (row.version, p.0, p.1)) (clash_at row.version gs)) (clash_among rows gs)
 
   abbrev pub clash_in : List VersionRow → List (Entry T) → Option (Clashing T)
-  clash_in rows entries = clash_among rows (groups entries)
+  clash_in rows entries = clash_among rows (groups same entries)
 
 -- ---- values
 

@@ -34,7 +34,13 @@ const JULIA: [u8; 16] = [
     0x12, 0x22, 0xc4, 0xb2, 0x21, 0x14, 0x5b, 0xfd, 0xae, 0xef, 0x88, 0xe4, 0x69, 0x2b, 0xbb, 0x3e,
 ];
 
-/// The row of a version.
+/// The row of a version: what the sections whose ranges hold it say (Pkg, registries). Equal values count once. A name in
+/// both kinds of dependency is weak, with the identifier of the weak ones; then a dependency on Julia is dropped. Compat
+/// counts on `julia` and on the names of dependencies of either kind, and is ignored on any other name. Each list is in
+/// the order of the names' bytes; where both compat tables have a name, both entries stand there, Compat's first.
+///
+/// The version is one of the listed ones. Tables that `rows` answers give a version no name with two values; where others
+/// do, the last one counts. The one error is want of memory.
 pub fn expand(alloc: Global, rows: &PackageRows, version: &Version) -> Result<Row, AllocError>
     ensures { IfOk result (spec.IsRow rows.now version.now) }
 {
@@ -65,6 +71,7 @@ fn held<T: Duplicate + Drop>(
     Ok(names)
 }
 
+/// Puts a name; one that is there takes the value.
 fn put<T: Drop>(
     alloc: Global,
     names: &mut NameMap<T>,
@@ -116,6 +123,7 @@ fn is_package(id: &Uuid) -> bool
     *id != Uuid::from_bytes(JULIA)
 }
 
+/// The compat of the version, by names.
 fn compat_of(
     alloc: Global,
     rows: &PackageRows,
@@ -169,6 +177,7 @@ fn put_counting(
     Ok(())
 }
 
+/// Puts an entry of the version, where compat on its name counts.
 fn put_if_counting(
     alloc: Global,
     spots: &mut SpotMap,
@@ -194,6 +203,7 @@ fn counts(key: &NameKey, strong: &NameMap<Uuid>, weak: &NameMap<Uuid>) -> bool
     key.as_str() == "julia" || is_dependency(key, strong, weak)
 }
 
+/// Whether a name is that of a dependency of either kind, and not Julia's.
 fn is_dependency(key: &NameKey, strong: &NameMap<Uuid>, weak: &NameMap<Uuid>) -> bool
     ensures { result ≡ spec.is_some_package (spec.weak_or (spec.value_of key.now weak.now.entries) (spec.value_of key.now strong.now.entries)) }
 {
@@ -206,6 +216,7 @@ fn is_dependency(key: &NameKey, strong: &NameMap<Uuid>, weak: &NameMap<Uuid>) ->
     }
 }
 
+/// The names and ranges of a map, in its order.
 fn listed(alloc: Global, mut spots: SpotMap) -> Result<CompatList, AllocError>
     ensures { IfOk result (λ list. map spec.allowed_in list.items ≡ map spec.some_ranges (map (λ p. (p.0.0, p.1)) spots.entries)) }
 {

@@ -1,10 +1,12 @@
 //! The entries of a table by their names.
-ghost use Rattle.std.specs.Prelude.{◌≡◌, ◌++◌, ◌∷◌, [], map, IfOk, OnOk};
+ghost use Rattle.std.specs.Prelude.{◌≡◌, ◌++◌, ◌∷◌, [], map, filter, not, IfOk, OnOk};
+ghost use Rattle.std.specs.List.{list_any};
 ghost use Rattle.std.specs.Option.{unwrap_or};
 ghost use Rattle.registry_tables.specs.Clash as spec;
 
 use crate::name_ref::NameRef;
 use crate::package_rows::Entry;
+use crate::section_value::SectionValue;
 use std::alloc::{AllocError, Global};
 use std::collections::BTreeMap;
 use std::marker::Model;
@@ -50,12 +52,12 @@ impl<'a, T> Group<'a, T> {
 
 type Groups<'a, T> = BTreeMap<NameRef<'a>, Group<'a, T>>;
 
-/// The entries of each name, in the order of the names' bytes.
-pub(crate) fn groups<'a, T>(
+/// The entries of each name that has several values, in the order of the names' bytes.
+pub(crate) fn groups<'a, T: SectionValue>(
     alloc: Global,
     entries: &'a [Entry<T>],
 ) -> Result<Vec<Group<'a, T>>, AllocError>
-    ensures { IfOk result (λ lists. lists.items ≡ spec.groups entries.now) }
+    ensures { IfOk result (λ lists. lists.items ≡ spec.groups T.same entries.now) }
 {
     let mut grouped = BTreeMap::new(alloc);
     for entry in entries {
@@ -92,12 +94,38 @@ fn or_new<'a, T>(alloc: Global, found: Option<Group<'a, T>>) -> Group<'a, T>
     }
 }
 
-fn lists<'a, T>(alloc: Global, mut grouped: Groups<'a, T>) -> Result<Vec<Group<'a, T>>, AllocError>
-    ensures { IfOk result (λ lists. lists.items ≡ map (λ g. g.1) grouped.entry.entries) }
+fn lists<'a, T: SectionValue>(
+    alloc: Global,
+    mut grouped: Groups<'a, T>,
+) -> Result<Vec<Group<'a, T>>, AllocError>
+    ensures { IfOk result (λ lists. lists.items ≡ filter (spec.is_varied T.same) (map (λ g. g.1) grouped.entry.entries)) }
 {
     let mut lists = Vec::new(alloc);
     while let Some((_, group)) = grouped.pop_first() {
-        lists.push(group)?;
+        if is_varied(&group) {
+            lists.push(group)?;
+        }
     }
     Ok(lists)
+}
+
+/// Whether a name has several values.
+fn is_varied<T: SectionValue>(group: &Group<T>) -> bool
+    ensures { result ≡ spec.is_varied T.same group.now }
+{
+    let Some((first, more)) = group.items().split_first() else {
+        return false;
+    };
+    has_other(first, more)
+}
+
+fn has_other<T: SectionValue>(first: &Entry<T>, more: &[&Entry<T>]) -> bool
+    ensures { result ≡ list_any (λ e. not (T.same first.now.value e.value)) (map (λ e. e.now) more.now) }
+{
+    for entry in more {
+        if !first.value.is_same(&entry.value) {
+            return true;
+        }
+    }
+    false
 }

@@ -21,6 +21,7 @@ pub mod registry_laws;
 mod registry_tests;
 #[cfg(test)]
 mod row_tests;
+mod section_value;
 mod seen;
 mod versions;
 

@@ -1,4 +1,4 @@
-//! Names as keys, by the order of their bytes.
+//! Names as keys of maps, by the order of their bytes.
 ghost use Rattle.std.specs.Prelude.{◌≡◌};
 
 use pkg_world::Name;

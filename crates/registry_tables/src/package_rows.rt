@@ -35,7 +35,8 @@ pub type IdEntries = Listed<IdEntry>;
 /// Compat entries, as they stand in the sections of a table.
 pub type RangeEntries = Listed<RangeEntry>;
 
-/// The tables of a package in one registry.
+/// The tables of a package in one registry: its versions in rising order, and the entries of its sections, by the bytes
+/// of the headings and then of the names.
 #[derive(Drop)]
 pub struct PackageRows {
     pub name: Name,

@@ -32,7 +32,16 @@ struct Tables {
     compat: RangeEntries,
 }
 
-/// The tables of a package.
+/// The tables of a package; None exactly where the registry doesn't list the identifier. Its files lie in the folder that
+/// the package's path means from the registry's, and each is read once, in this order: Package.toml and Versions.toml,
+/// which have to be there, then Deps.toml, Compat.toml, WeakDeps.toml and WeakCompat.toml, which may be absent (Pkg,
+/// registries).
+///
+/// MissingFile names the first needed file that isn't there, where a path that rises above the root leads to none, and
+/// then the registry's folder. BadFile names the first file that is refused: as BadToml, Deep, or by its first refusal in
+/// key order, and a table with sections then as Clash, where two sections that hold a listed version give one name
+/// different values (an own rule). ReadFault names a path that the outside failed at, and comes only where the store's
+/// count of failed reads rose.
 pub fn rows<S: Store>(
     alloc: Global,
     registry: &Registry,
@@ -67,6 +76,7 @@ fn package_named<'a>(registry: &'a Registry, uuid: &Uuid) -> Option<&'a Package>
         .find(|wanted| wanted.uuid == *uuid)
 }
 
+/// The tables of a listed package.
 fn rows_of<S: Store>(
     alloc: Global,
     store: &mut S,
@@ -86,6 +96,7 @@ fn rows_of<S: Store>(
     }
 }
 
+/// The tables in a package's folder.
 fn rows_at<S: Store>(
     alloc: Global,
     store: &mut S,
@@ -104,6 +115,7 @@ fn rows_at<S: Store>(
     }
 }
 
+/// The tables whose package was tested.
 fn after_package<S: Store>(
     alloc: Global,
     store: &mut S,
@@ -122,6 +134,7 @@ fn after_package<S: Store>(
     }
 }
 
+/// The tables beside the versions.
 #[tactic(auto, unfolding(crate::specs::Rows::with_versions))]
 fn with_versions<S: Store>(
     alloc: Global,
@@ -314,6 +327,7 @@ fn versions_of(alloc: Global, file: &NormPath, table: &Table) -> Result<VersionR
     }
 }
 
+/// The tables of dependencies and their compat.
 fn strong_in<S: Store>(
     alloc: Global,
     store: &mut S,
@@ -329,6 +343,7 @@ fn strong_in<S: Store>(
     tables_in(alloc, store, folder, versions, "Deps.toml", "Compat.toml")
 }
 
+/// The tables of weak dependencies and their compat.
 fn weak_in<S: Store>(
     alloc: Global,
     store: &mut S,
@@ -378,6 +393,7 @@ fn tables_in<S: Store>(
     }
 }
 
+/// The entries of a table of dependencies; none where its file is absent.
 fn ids_in<S: Store>(
     alloc: Global,
     store: &mut S,
@@ -431,6 +447,7 @@ fn ids_unless_clash(
     }
 }
 
+/// The entries of a compat table; none where its file is absent.
 fn ranges_in<S: Store>(
     alloc: Global,
     store: &mut S,

@@ -1,6 +1,6 @@
 use Rattle.std.proofs.Common.{◌≡◌, length}
 use Rattle.registry_tables.specs.Clash as spec
-use Rattle.registry_tables.proofs.clash.same_ranges.Given as goal
+use Rattle.registry_tables.proofs.section_value.same_ranges.Given as goal
 
 abbrev pub invariant-loop-range : goal.invariant-loop-range
 invariant-loop-range l = spec.same_ranges l.fn.left l.fn.right ≡ spec.same_ranges l.left l.right
