@@ -37,13 +37,17 @@ const RUNS: &str = "6613f860bacf69437812f7d82ebcba0de8cb65d6";
 /// The tree of 64 folders `a`, one in the other, and an empty file `f` in the last.
 const NESTED: &str = "df3ca2e05a44a145f0507081539d07693c5d0bae";
 
-const IS_PLAIN: &str = "0 verified A 00000000-0000-4000-8000-000000000001 865b67f76420fa22fcf86e1fc88f89873ac4221a\n|";
+const IS_PLAIN: &str =
+    "0 verified A 00000000-0000-4000-8000-000000000001 865b67f76420fa22fcf86e1fc88f89873ac4221a\n|";
 
-const IS_RUNS: &str = "0 verified A 00000000-0000-4000-8000-000000000001 6613f860bacf69437812f7d82ebcba0de8cb65d6\n|";
+const IS_RUNS: &str =
+    "0 verified A 00000000-0000-4000-8000-000000000001 6613f860bacf69437812f7d82ebcba0de8cb65d6\n|";
 
-const PLAIN_NOT_RUNS: &str = "13 |error 13 Differs 865b67f76420fa22fcf86e1fc88f89873ac4221a 6613f860bacf69437812f7d82ebcba0de8cb65d6\n";
+const PLAIN_NOT_RUNS: &str =
+    "13 |error 13 Differs 865b67f76420fa22fcf86e1fc88f89873ac4221a 6613f860bacf69437812f7d82ebcba0de8cb65d6\n";
 
-const RUNS_NOT_PLAIN: &str = "13 |error 13 Differs 6613f860bacf69437812f7d82ebcba0de8cb65d6 865b67f76420fa22fcf86e1fc88f89873ac4221a\n";
+const RUNS_NOT_PLAIN: &str =
+    "13 |error 13 Differs 6613f860bacf69437812f7d82ebcba0de8cb65d6 865b67f76420fa22fcf86e1fc88f89873ac4221a\n";
 
 /// The tree of A's stanza, how many letters its folder's slug has, the words, and what is printed.
 const WORLDS: [(&str, u8, &str, &str); 11] = [
@@ -156,16 +160,7 @@ fn told(
 
 /// The place of the folder `/p`, with the depot `/d`.
 fn place(alloc: Global) -> Result<Place, PlaceFault> {
-    place_from(
-        alloc,
-        "/p",
-        None,
-        Some("/d"),
-        None,
-        Some("/p"),
-        None,
-        None,
-    )
+    place_from(alloc, "/p", None, Some("/d"), None, Some("/p"), None, None)
 }
 
 #[test]

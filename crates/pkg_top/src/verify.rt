@@ -15,7 +15,8 @@ use crate::status::{Difference, Status};
 use depot_hash::{FolderFault, folder_id, installed};
 use manifest_file::{Origin, Stanza};
 use pkg_world::{
-    Duplicate, Listed, Name, NormPath, NormPaths, PathFault, Place, Store, Text, TreeId, first_piece,
+    Duplicate, Listed, Name, NormPath, NormPaths, PathFault, Place, Store, Text, TreeId,
+    first_piece,
 };
 use std::alloc::{AllocError, Global};
 use uuid::Uuid;
@@ -47,7 +48,14 @@ pub(crate) fn verify<S: Store>(
     ensures other { S.write_faults store.new ≡ S.write_faults store.old }
 {
     match both_files(alloc, store, place) {
-        Ok(both) => verify_among(alloc, name, list, place, both.manifest.stanzas.items(), store),
+        Ok(both) => verify_among(
+            alloc,
+            name,
+            list,
+            place,
+            both.manifest.stanzas.items(),
+            store,
+        ),
         Err(status) => Err(status),
     }
 }
