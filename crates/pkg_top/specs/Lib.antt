@@ -5,6 +5,7 @@ pub mod Import
 pub mod OffersDue
 pub mod StatusDue
 pub mod VerifyDue
+pub mod VerifySteps
 pub mod Due
 pub mod Answers
 pub mod Home

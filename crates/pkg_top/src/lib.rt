@@ -16,6 +16,8 @@ mod status_lines_tests;
 mod status_tests;
 #[cfg(test)]
 mod tests;
+#[cfg(test)]
+mod tests_verify;
 mod top;
 mod verify;
 mod which;
