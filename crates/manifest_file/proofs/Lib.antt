@@ -1,6 +1,9 @@
 pub mod Faults
+pub mod GroupsBack
 pub mod Groups
 pub mod Orders
 pub mod Puts
 pub mod Sorts
+pub mod StanzasBack
+pub mod ValuesBack
 pub mod Walks
