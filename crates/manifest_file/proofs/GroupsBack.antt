@@ -1,5 +1,5 @@
 -- Stanzas in groups read back.
-use Rattle.std.proofs.Common.{rules, ◌≡◌, ℕ, Bool, true, false, ◌&&◌, if◌then◌else◌, List, [], ◌∷◌, ◌++◌, map, Option, Some, None, codes, option_map, Result, Ok, Err, Less, Equal, Greater, Ordering, refl, ap, sym, ◌∙◌}
+use Rattle.std.proofs.Common.{rules, ◌≡◌, ℕ, Bool, true, false, ◌&&◌, if◌then◌else◌, List, [], ◌∷◌, ◌++◌, map, Option, Some, None, codes, option_map, Ok, Less, Equal, Greater, Ordering, refl, ap, sym, ◌∙◌}
 use Rattle.std.specs.Str.{bytes_eq}
 use Rattle.std.specs.Ordering.{nat_cmp, is_lt, is_eq}
 use Rattle.std.specs.Cmp.Lexicographic.{slice_cmp}
@@ -8,21 +8,18 @@ use Rattle.std.proofs.lemmas.Map.Text.{is_eq-slice_cmp}
 use Rattle.std.proofs.lemmas.Slice.Eq.{bytes_eq-Decides}
 use Rattle.toml.specs.Data.{Data, string, Members, get_member}
 use Rattle.toml_view.specs.Causes.{then_read}
-use Rattle.toml_view.specs.Reading.{version_at, or_empty, at, chained, mapped, opt, opt_at, need, need_at, table_at, table_of, list_of, each}
-use Rattle.toml_view.specs.declared.refusal.Refusal.{Refusal}
-use Rattle.pkg_world.specs.declared.cause.Cause.{Cause}
+use Rattle.toml_view.specs.Reading.{version_at, or_empty, at, chained, mapped, opt, opt_at, need, need_at, table_at, list_of, each}
 use Rattle.pkg_world.specs.ByName.{is_by_name}
 use Rattle.manifest_file.specs.Chains.{files}
-use Rattle.manifest_file.specs.Entries.{entry_of, file_of}
+use Rattle.manifest_file.specs.Entries.{entry_of}
 use Rattle.manifest_file.specs.Format.{format_of}
 use Rattle.manifest_file.specs.Saying.{SaidStanza, Said, Groups, flat, uuids_of, first_again, all_read, bearers_of, bearers_in, stanzas_named, stanza_of, unless_same, of_file, manifest_of}
 use Rattle.manifest_file.specs.Written as spec
 use Rattle.manifest_file.specs.Written.{one_more, bearers_among, joined, grouped}
 use Rattle.manifest_file.specs.ReadsBack.{VersionBack, StanzaBack, StanzasBack, StandOnce}
 use Rattle.manifest_file.specs.declared.bearers.Bearers.{Bearers}
-use Rattle.manifest_file.specs.declared.bearers.Bearers.TheVariants.{Nobody, One, Several}
+use Rattle.manifest_file.specs.declared.bearers.Bearers.TheVariants.{Nobody, One}
 use Rattle.manifest_file.specs.declared.entry.Entry.{Entry}
-use Rattle.manifest_file.specs.declared.entry.Entries.{Entries}
 use Rattle.manifest_file.proofs.Groups.{Group, grouped_ordered}
 use Rattle.manifest_file.proofs.Orders.{keyed_is}
 use Rattle.manifest_file.proofs.ValuesBack.{version_back}

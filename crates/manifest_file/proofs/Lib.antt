@@ -1,3 +1,4 @@
+pub mod Carried
 pub mod Faults
 pub mod GroupsBack
 pub mod Groups

@@ -1,13 +1,12 @@
 -- A stanza reads back.
-use Rattle.std.proofs.Common.{◌≡◌, ℕ, Bool, true, false, not, ◌&&◌, if◌then◌else◌, List, [], ◌∷◌, map, codes, Option, Some, None, is_some, unwrap_or, option_map, Result, Ok, Err, Less, Equal, Greater, Ordering, refl, ap, sym, ◌∙◌}
+use Rattle.std.proofs.Common.{◌≡◌, ℕ, false, not, ◌&&◌, if◌then◌else◌, List, [], ◌∷◌, map, codes, Option, Some, None, is_some, unwrap_or, option_map, Result, Ok, Less, Equal, Greater, Ordering, refl, ap, ◌∙◌}
 use Rattle.std.specs.Ordering.{nat_cmp, match_ordering}
 use Rattle.std.specs.Cmp.Lexicographic.{slice_cmp}
-use Rattle.toml.specs.Data.{Data, string, table, array, Members, get_member}
+use Rattle.toml.specs.Data.{Data, string, Members, get_member}
 use Rattle.toml.specs.View.{items_of}
 use Rattle.toml_view.specs.Causes.{then_read}
 use Rattle.toml_view.specs.Reading.{text_of, uuid_of, version_at, texts_of, or_shape, or_empty, at, chained, mapped, opt, opt_at, need, need_at, items_read, table_at, table_of, list_of}
 use Rattle.toml_view.specs.declared.refusal.Refusal.{Refusal}
-use Rattle.pkg_world.specs.declared.cause.Cause.{Cause}
 use Rattle.pkg_world.specs.TreeIds.{tree_text}
 use Rattle.manifest_file.specs.Chains.{fronts, backs, both}
 use Rattle.manifest_file.specs.Entries.{origin_of, entry_of}

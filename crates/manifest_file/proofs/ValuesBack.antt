@@ -1,17 +1,14 @@
 -- The values of a stanza read back.
-use Rattle.std.proofs.Common.{◌≡◌, ℕ, Bool, true, false, ◌&&◌, if◌then◌else◌, List, [], ◌∷◌, map, Option, Some, None, unwrap_or, option_map, Result, Ok, Err, Less, Equal, Greater, Ordering, refl, ap, sym, ◌∙◌, rules}
-use Rattle.std.specs.Str.{bytes_eq}
+use Rattle.std.proofs.Common.{◌≡◌, ℕ, Bool, true, false, ◌&&◌, if◌then◌else◌, List, [], ◌∷◌, map, Option, Some, None, unwrap_or, option_map, Ok, Less, Equal, Greater, Ordering, refl, ap, ◌∙◌, rules}
 use Rattle.std.specs.Ordering.{nat_cmp, is_lt}
 use Rattle.std.specs.Cmp.Lexicographic.{slice_cmp}
 use Rattle.std.specs.FinMap.Entries.{put, by_order, below_all}
 use Rattle.std.proofs.lemmas.Slice.Eq.{bytes_eq-Decides}
-use Rattle.toml.specs.Data.{Data, string, table, Members}
+use Rattle.toml.specs.Data.{string}
 use Rattle.toml.specs.View.{items_of}
 use Rattle.toml_view.specs.Causes.{then_read}
 use Rattle.toml_view.specs.Reading.{text_of, uuid_of, version_at, or_version, texts_of, or_shape, or_empty, at, chained, mapped, opt_at, items_read, table_of, each}
-use Rattle.toml_view.specs.declared.refusal.Refusal.{Refusal}
 use Rattle.jl_versions.specs.declared.version.Version.{Version}
-use Rattle.pkg_world.specs.declared.cause.Cause.{Cause}
 use Rattle.pkg_world.specs.ByName.{is_by_name}
 use Rattle.manifest_file.specs.Saying.{all_read, the_one, listed_id, in_name_order, ids_of}
 use Rattle.manifest_file.specs.Values.{flag_of, dependencies_of}

@@ -1,5 +1,5 @@
 -- What is written of a stanza reads as the stanza: the texts of its values mean those values.
-use Rattle.std.specs.Prelude.{◌≡◌, ℕ, Bool, true, false, List, [], ◌∷◌, map, Option, Some, None, Result, Ok}
+use Rattle.std.specs.Prelude.{◌≡◌, ℕ, true, false, List, [], ◌∷◌, map, Option, Some, None, Ok}
 use Rattle.uuid.specs.Text.{hyphenated_text, lower, parsed}
 use Rattle.jl_versions.specs.Printing.{printed}
 use Rattle.jl_versions.specs.Meant.{version_meant}

@@ -6,6 +6,7 @@ ghost use Rattle.manifest_file.specs.Saying.{read_of, manifest_of, of_view, reso
 ghost use Rattle.manifest_file.specs.Said.{said};
 ghost use Rattle.manifest_file.specs.Sorting.{bearers_by};
 ghost use Rattle.manifest_file.specs.Written.{are_by_name, written, written_by};
+ghost use Rattle.manifest_file.specs.ReadsBack.{VersionBack, StanzasBack, StandOnce};
 ghost use Rattle.manifest_file.specs.Steps.{Reads, Refuses, StopFault, ViewFaultIs};
 
 use crate::bearers::{Index, index_of_stanzas};
@@ -48,10 +49,12 @@ impl Manifest {
 
     /// The table that says the manifest, in format 2.0. Dependencies are a list of names where each name has exactly one
     /// stanza, which has the identifier, and else a table; what is empty, absent or false isn't written. The caller's
-    /// stanzas stand in the order of their names' bytes. The one error is want of memory.
+    /// stanzas stand in the order of their names' bytes. Where no two have one identifier the table reads again to an equal
+    /// manifest. The one error is want of memory.
     pub fn to_table(&self, alloc: Global) -> Result<Table, AllocError>
         requires by_name { IsTrue (are_by_name (said self.now).stanzas) }
-        ensures { IfOk result (λ table. table_view table ≡ written (said self.now)) }
+        ensures written { IfOk result (λ table. table_view table ≡ written (said self.now)) }
+        ensures back { StandOnce (said self.now).stanzas → IfOk result (λ table. manifest_of (table_view table) ≡ Ok (said self.now)) }
     {
         let index = index_of_stanzas(alloc, self.stanzas.items())?;
         self.table_by(alloc, &index)
@@ -60,7 +63,9 @@ impl Manifest {
     /// The table, where the index tells who bears each name.
     fn table_by(&self, alloc: Global, index: &Index) -> Result<Table, AllocError>
         requires { IsTrue (are_by_name (said self.now).stanzas) }
-        ensures { IfOk result (λ table. table_view table ≡ written_by (bearers_by index.now) (said self.now)) }
+        ensures written { IfOk result (λ table. table_view table ≡ written_by (bearers_by index.now) (said self.now)) }
+        ensures version { IfOk result (λ table. VersionBack self.now.julia_version) }
+        ensures stanzas { IfOk result (λ table. StanzasBack (bearers_by index.now) (said self.now).stanzas) }
     {
         let mut table = Table::new(alloc);
         let format = Value::string(alloc, "2.0")?;
