@@ -44,3 +44,8 @@ run_back bearers start end ss before first rest =
 pub told_by : {T E : Type 0} {A B C D : T → Type 0} (answer : Result T E) → ((value : T) → A value → B value → C value → D value) → IfOk answer A → IfOk answer B → IfOk answer C → IfOk answer D
 told_by (Ok value) go a b c = go value a b c
 told_by (Err fault) go a b c = tt
+
+-- what follows of each value that is answered
+pub told_then : {T E : Type 0} {A B : T → Type 0} (answer : Result T E) → ((value : T) → A value → B value) → IfOk answer A → IfOk answer B
+told_then (Ok value) go a = go value a
+told_then (Err fault) go a = tt

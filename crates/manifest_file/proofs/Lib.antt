@@ -2,6 +2,7 @@ pub mod Carried
 pub mod Faults
 pub mod GroupsBack
 pub mod Groups
+pub mod Ordered
 pub mod Orders
 pub mod Puts
 pub mod Sorts

@@ -1,5 +1,5 @@
 -- The stanzas that are read stand in the order of their names, and each has the identifier that stands in the file.
-use Rattle.std.proofs.Common.{◌≡◌, ℕ, Bool, true, false, ◌&&◌, List, [], ◌∷◌, ◌++◌, map, Option, Some, None, Result, Ok, Err, Less, Equal, Greater, Ordering, refl, ap, sym, subst, ◌∙◌}
+use Rattle.std.proofs.Common.{◌≡◌, ℕ, Bool, true, false, ◌&&◌, List, [], ◌∷◌, ◌++◌, map, None, Result, Ok, Err, Less, Equal, Greater, Ordering, refl, ap, sym, subst, ◌∙◌}
 use Rattle.std.proofs.lemmas.Cmp.{tied_itself, nat_list_cmp_total}
 use Rattle.std.proofs.lemmas.List.{map-append}
 use Rattle.std.specs.Ordering.{nat_cmp, is_lt, is_le}
@@ -57,17 +57,17 @@ are_of bearers (e ∷ es) ss h = go (stanza_of bearers e) (all_read (stanza_of b
 
 -- ---- identifiers
 
-uuids_are : (es : List Named) (ss : List SaidStanza) → AreOf es ss → map (λ s. s.uuid) ss ≡ map (λ e. e.1.uuid) es
+uuids_are : (es : List Named) (ss : List SaidStanza) → AreOf es ss → map (λ s. s.uuid) ss ≡ map (λ (e : Named). e.1.uuid) es
 uuids_are [] [] h = refl
 uuids_are [] (s ∷ ss) h = absurd h
 uuids_are (e ∷ es) [] h = absurd h
 uuids_are (e ∷ es) (s ∷ ss) h = λ i. h.0.1 i ∷ uuids_are es ss h.1 i
 
-named_uuids : (name : List ℕ) (es : List Entry) → map (λ e. e.1.uuid) (map (λ entry. (name, entry)) es) ≡ map (λ entry. entry.uuid) es
+named_uuids : (name : List ℕ) (es : List Entry) → map (λ (e : Named). e.1.uuid) (map (λ entry. (name, entry)) es) ≡ map (λ entry. entry.uuid) es
 named_uuids name [] = refl
 named_uuids name (e ∷ es) = ap (λ ids. e.uuid ∷ ids) (named_uuids name es)
 
-flat_uuids : (gs : Groups) → map (λ e. e.1.uuid) (flat gs) ≡ uuids_of gs
+flat_uuids : (gs : Groups) → map (λ (e : Named). e.1.uuid) (flat gs) ≡ uuids_of gs
 flat_uuids [] = refl
 flat_uuids (g ∷ gs) =
     map-append (λ (e : Named). e.1.uuid) (map (λ entry. (g.0, entry)) g.1) (flat gs)
@@ -104,7 +104,7 @@ flat_above low (g ∷ gs) h =
     named_above low g.0 g.1 (flat gs) here (flat_above low gs (right_true (is_lt (slice_cmp nat_cmp low g.0)) (below_all (slice_cmp nat_cmp) low gs) h))
 
 itself : (name : List ℕ) → is_le (slice_cmp nat_cmp name name) ≡ true
-itself name = ap is_le (tied_itself (slice_cmp nat_cmp) nat_list_cmp_total name)
+itself name = ap is_le (tied_itself nat_list_cmp_total name)
 
 named_in_order : (name : List ℕ) (es : List Entry) (rest : List Named) → NotAbove name rest → InOrder rest → InOrder (map (λ entry. (name, entry)) es ++ rest)
 named_in_order name [] rest above ordered = ordered
