@@ -4,6 +4,9 @@
 mod cause_line;
 mod early;
 mod home;
+mod offer_lines;
+mod offer_merge;
+mod offer_tables;
 mod offers;
 mod pieces;
 mod place;
@@ -14,6 +17,8 @@ mod status_lines;
 mod status_tests;
 #[cfg(test)]
 mod tests;
+#[cfg(test)]
+mod tests_offers;
 mod top;
 mod verify;
 mod which;
