@@ -1,5 +1,5 @@
 -- The spare room of lists says nothing of a registry or of a row.
-use Rattle.std.proofs.Common.{◌≡◌, ℕ, Bool, true, false, cond, ◌&&◌, List, [], ◌∷◌, ◌++◌, map, filter, Option, Some, None, IfSome, Result, Ok, MatchResult, option_map, refl, sym, ap, ◌∙◌}
+use Rattle.std.proofs.Common.{◌≡◌, ℕ, Bool, true, false, cond, ◌&&◌, List, [], ◌∷◌, ◌++◌, map, filter, Option, Some, None, IfSome, Result, Ok, Err, IfOk, MatchResult, option_map, refl, sym, ap, ◌∙◌}
 use Rattle.std.specs.List.{flat_map}
 use Rattle.pkg_world.specs.Path.{Path}
 use Rattle.pkg_world.specs.Tree.{Files}
@@ -65,6 +65,11 @@ compat_kept rows v =
 -- the row of a version
 pub row-kept : (rows : PackageRows) (v : Version) (row : Row) → IsRow rows v row → IsRow (kept_rows (seen_rows rows)) v row
 row-kept rows v row h = record { deps = h.deps; weak = h.weak; compat = h.compat ∙ ap (map some_ranges) (sym (compat_kept rows v)) }
+
+pub row-kept-ok : {E : Type 0} (rows : PackageRows) (seen : Rows) (v : Version) (answer : Result Row E) → seen_rows rows ≡ seen
+    → IfOk answer (IsRow rows v) → IfOk answer (IsRow (kept_rows seen) v)
+row-kept-ok rows seen v (Ok row) same h = rw (← same) (row-kept rows v row h)
+row-kept-ok rows seen v (Err fault) same h = tt
 
 some_lines : (entries : List (List ℕ × List Ranged)) → flat_map entry_line (map some_ranges entries) ≡ flat_map compat_line entries
 some_lines [] = refl

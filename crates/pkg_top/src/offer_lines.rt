@@ -49,7 +49,7 @@ fn push_offers<'a>(
     text: &mut String,
     mut offers: Offers<'a>,
 ) -> Result<(), AllocError>
-    ensures { OnOk result (string_bytes text.new ≡ string_bytes text.old ++ spec.all_lines offers.entries) }
+    ensures { OnOk result (string_bytes text.new ≡ string_bytes text.old ++ spec.all_lines offers.entry.entries) }
 {
     'offers: while let Some((_, offer)) = offers.pop_first() {
         push_offer(alloc, text, &offer)?;
