@@ -1,6 +1,6 @@
 //! Examples of what `offers` prints over registries in memory.
 use super::*;
-use pkg_world::{MemSink, MemStore, NormPath, PathFault, Place, Store};
+use pkg_world::{MemStore, NormPath, PathFault, Place, Store, SureSink};
 use std::alloc::{AllocError, Global};
 use std::test::Fail;
 
@@ -210,8 +210,8 @@ fn told(
     store: &mut MemStore,
 ) -> Result<String, AllocError> {
     let words = words_of(alloc, command)?;
-    let mut out = MemSink::make(alloc)?;
-    let mut err = MemSink::make(alloc)?;
+    let mut out = SureSink::make(alloc)?;
+    let mut err = SureSink::make(alloc)?;
     let ended = run(alloc, &words, place, store, &mut out, &mut err);
     let code = ended.status.code();
     let out = std::str::from_utf8(out.text()).unwrap_or("no text");
