@@ -1,42 +1,17 @@
--- The spare room of lists says nothing of a registry or of a row.
-use Rattle.std.proofs.Common.{◌≡◌, ℕ, Bool, true, false, cond, ◌&&◌, List, [], ◌∷◌, ◌++◌, map, filter, Option, Some, None, IfSome, Result, Ok, Err, IfOk, MatchResult, option_map, refl, sym, ap, ◌∙◌}
+-- The spare room of lists says nothing of a row, and its lines are those that its lists give.
+use Rattle.std.proofs.Common.{◌≡◌, ℕ, Bool, true, false, cond, ◌&&◌, List, [], ◌∷◌, ◌++◌, map, filter, Result, Ok, Err, IfOk, refl, sym, ap, ◌∙◌}
 use Rattle.std.specs.List.{flat_map}
-use Rattle.pkg_world.specs.Path.{Path}
-use Rattle.pkg_world.specs.Tree.{Files}
 use Rattle.jl_versions.specs.declared.version.Version.{Version}
 use Rattle.compat_spec.specs.Listing.{Listing}
 use Rattle.compat_spec.specs.Ranges.{Ranged}
-use Rattle.registry_tables.specs.Answers.{Read, Refuses}
-use Rattle.registry_tables.specs.Registry.{registered}
 use Rattle.registry_tables.specs.Sections.{bare}
-use Rattle.registry_tables.specs.Rows.{Rows, rows_in, rows_from, rows_of_package, some_rows, folder_of, package_named, seen_rows}
-use Rattle.registry_tables.specs.Row.{IsRow, holds, counts, spotted, counting, put_to, by_spot, compat_of, deps_named, weak_named, some_ranges, allowed_in}
+use Rattle.registry_tables.specs.Rows.{Rows, seen_rows}
+use Rattle.registry_tables.specs.Row.{IsRow, holds, counts, spotted, counting, put_to, by_spot, compat_of, deps_named, weak_named, some_ranges}
 use Rattle.registry_tables.specs.declared.expanding.Row.{Row}
-use Rattle.registry_tables.specs.declared.fault.RegFault.{RegFault}
-use Rattle.registry_tables.specs.declared.package_list.Package.{Package}
-use Rattle.registry_tables.specs.declared.package_list.Registry.{Registry}
 use Rattle.registry_tables.specs.declared.package_rows.Entry.{Entry}
 use Rattle.registry_tables.specs.declared.package_rows.PackageRows.{PackageRows}
-use Rattle.pkg_top.specs.OfferTables.{kept, kept_entry, kept_rows}
-use Rattle.pkg_top.specs.OfferLines.{id_line, compat_line, entry_line, made_lines, row_lines}
-
-from_kept : (files : Files) (registry : Registry) (wanted : Package) (folder : Option Path) → rows_from files (kept (registered registry)) wanted folder ≡ rows_from files registry wanted folder
-from_kept files registry wanted None = refl
-from_kept files registry wanted (Some folder) = refl
-
-of_kept : (files : Files) (registry : Registry) (found : Option Package) → rows_of_package files (kept (registered registry)) found ≡ rows_of_package files registry found
-of_kept files registry None = refl
-of_kept files registry (Some wanted) = ap some_rows (from_kept files registry wanted (folder_of registry wanted))
-
-in_kept : (files : Files) (registry : Registry) (uuid : List ℕ) → rows_in files (kept (registered registry)) uuid ≡ rows_in files registry uuid
-in_kept files registry uuid = of_kept files registry (package_named registry uuid)
-
--- what is read of a package
-pub rows-kept : (files : Option Files) (registry : Registry) (uuid : List ℕ) (answer : Result (Option PackageRows) RegFault)
-    → IfSome files (λ all. MatchResult answer (λ found. rows_in all registry uuid ≡ Ok (option_map seen_rows found)) (Refuses (rows_in all registry uuid)))
-    → IfSome files (λ all. MatchResult answer (λ found. rows_in all (kept (registered registry)) uuid ≡ Ok (option_map seen_rows found)) (Refuses (rows_in all (kept (registered registry)) uuid)))
-rows-kept None registry uuid answer h = tt
-rows-kept (Some all) registry uuid answer h = rw (in_kept all registry uuid) h
+use Rattle.pkg_top.specs.OfferTables.{kept_entry, kept_rows}
+use Rattle.pkg_top.specs.OfferLines.{compat_line, entry_line, made_lines, row_lines}
 
 spotted_step : (kind test : Bool) (e : Entry (Listing Ranged)) (kept_list list : List (Entry (Listing Ranged)))
     → map (spotted kind) kept_list ≡ map (spotted kind) list

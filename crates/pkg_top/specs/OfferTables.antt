@@ -5,7 +5,7 @@ use Rattle.pkg_world.specs.Tree.{Files}
 use Rattle.pkg_world.specs.Listing.{Listing}
 use Rattle.compat_spec.specs.Listing.{Listing as Room}
 use Rattle.compat_spec.specs.Ranges.{Ranged}
-use Rattle.registry_tables.specs.Answers.{Unusable, Read, then_read, Refuses}
+use Rattle.registry_tables.specs.Answers.{Read, then_read, Refuses}
 use Rattle.registry_tables.specs.Registry.{Registered, registry_in}
 use Rattle.registry_tables.specs.Rows.{Rows, rows_in}
 use Rattle.registry_tables.specs.declared.fault.RegFault.{RegFault}

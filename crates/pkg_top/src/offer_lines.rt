@@ -1,5 +1,5 @@
 //! The lines of a package that registries offer.
-ghost use Rattle.std.specs.Prelude.{◌≡◌, ◌++◌, ◌∷◌, [], codes, map, Some, IfOk, OnOk, string_bytes};
+ghost use Rattle.std.specs.Prelude.{◌≡◌, ◌++◌, ◌∷◌, [], codes, map, IfOk, OnOk, string_bytes};
 ghost use Rattle.std.specs.List.{flat_map};
 ghost use Rattle.registry_tables.specs.Row.{allowed_in, ranges_in};
 ghost use Rattle.pkg_top.specs.OfferLines as spec;
@@ -78,7 +78,12 @@ fn version_line(alloc: Global, row: &VersionRow) -> Result<String, AllocError>
 {
     let version = row.version.print(alloc)?;
     let tree = row.tree.text(alloc)?;
-    version_words(alloc, version.as_str(), tree.as_str(), yanked_text(row.yanked))
+    version_words(
+        alloc,
+        version.as_str(),
+        tree.as_str(),
+        yanked_text(row.yanked),
+    )
 }
 
 fn version_words(
@@ -149,11 +154,7 @@ fn id_words(alloc: Global, word: &str, name: &str, uuid: &str) -> Result<String,
 }
 
 /// Appends what is allowed of each name.
-fn push_compat(
-    alloc: Global,
-    text: &mut String,
-    list: &[(Name, Allowed)],
-) -> Result<(), AllocError>
+fn push_compat(alloc: Global, text: &mut String, list: &[(Name, Allowed)]) -> Result<(), AllocError>
     ensures { OnOk result (string_bytes text.new ≡ string_bytes text.old ++ flat_map spec.entry_line (map allowed_in list.now)) }
 {
     for (name, allowed) in list {

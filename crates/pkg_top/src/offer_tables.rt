@@ -8,9 +8,7 @@ ghost use Rattle.pkg_top.specs.OfferTables.{Adds, kept, kept_rows};
 
 use jl_versions::Version;
 use pkg_world::{Listed, Name, NormPath, Store};
-use registry_tables::{
-    Package, PackageRows, RegFault, Registry, Row, VersionRow, expand, rows,
-};
+use registry_tables::{Package, PackageRows, RegFault, Registry, Row, VersionRow, expand, rows};
 use std::alloc::{AllocError, Global};
 use std::marker::Model;
 use uuid::Uuid;

@@ -213,11 +213,7 @@ fn uuids_named(alloc: Global, name: &str, list: &[Loaded]) -> Result<Ids, AllocE
     in_order(alloc, uuids)
 }
 
-fn put_uuids(
-    uuids: &mut BTreeSet<Uuid>,
-    name: &str,
-    packages: &[Package],
-) -> Result<(), AllocError>
+fn put_uuids(uuids: &mut BTreeSet<Uuid>, name: &str, packages: &[Package]) -> Result<(), AllocError>
     ensures { OnOk result (uuids.new.keys ≡ spec.put_listed name.now uuids.old.keys packages.now) }
 {
     for listed in packages {
