@@ -1,5 +1,5 @@
 -- Reading one after the other: what was read so far, and the rest.
-use Rattle.std.proofs.Common.{◌≡◌, ℕ, suc, ◌+◌, ◌<◌, arith, get_or, length, List, [], ◌∷◌, ◌++◌, drop, Option, Some, None, IfSome, Result, Ok, Err, refl, sym, ap, ◌∙◌, append_assoc}
+use Rattle.std.proofs.Common.{◌≡◌, ℕ, suc, ◌+◌, ◌<◌, arith, get_or, length, List, [], ◌∷◌, ◌++◌, drop, Option, Some, None, IfSome, Ok, Err, refl, sym, ap, ◌∙◌, append_assoc}
 use Rattle.std.proofs.Math.Seq.{drop-cons}
 use Rattle.registry_tables.specs.Answers.{Read, then_read, Refuses}
 use Rattle.registry_tables.specs.declared.fault.RegFault.{RegFault}

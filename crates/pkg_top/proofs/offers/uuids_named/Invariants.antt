@@ -1,4 +1,4 @@
-use Rattle.std.proofs.Common.{◌≡◌, [], drop, fold}
+use Rattle.std.proofs.Common.{◌≡◌, drop, fold}
 use Rattle.pkg_top.specs.OffersDue as spec
 use Rattle.pkg_top.proofs.offers.uuids_named.Given as goal
 
