@@ -62,7 +62,7 @@ own_of None uuid = None
 abbrev pub env_of : Place → Path → project.Said → Path → manifest.Said → Read Env
 env_of place file said path found =
     at_file path (unless_escaping (first_escaping (folder_of path) found.stanzas)
-        (record { file = file; own = own_of said.name said.uuid; deps = said.deps; folder = folder_of path; stanzas = found.stanzas; depots = place.depots.items }))
+    (record { file = file; own = own_of said.name said.uuid; deps = said.deps; folder = folder_of path; stanzas = found.stanzas; depots = place.depots.items }))
 
 abbrev pub env_at : Files → Place → Path → project.Said → Path → Read Env
 env_at files place file said path = then_file (at_file path (manifest_in (holds path files))) (env_of place file said path)

@@ -97,13 +97,7 @@ fn behind_sign(text: &str) -> Option<&str>
         (λ name. ((position_or_len spec.is_sign text.now == 0) ≡ true) × (name.now ≡ after_first spec.is_sign text.now)) }
 {
     match text.split_once('@') {
-        Some((front, name)) => {
-            if front.is_empty() {
-                Some(name)
-            } else {
-                None
-            }
-        }
+        Some((front, name)) => { if front.is_empty() { Some(name) } else { None } }
         None => None,
     }
 }

@@ -319,7 +319,10 @@ fn made(
 {
     let Manifest { stanzas, .. } = manifest;
     let Project {
-        name, uuid, deps, ..
+        name,
+        uuid,
+        deps,
+        ..
     } = project;
     Ok(ProjectEnv {
         file: file.copy(alloc)?,

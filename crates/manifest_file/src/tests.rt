@@ -48,30 +48,19 @@ fn shown(alloc: Global, ids: &NameIds) -> Result<String, AllocError> {
     Ok(text)
 }
 
+/// What is shown of `FULL`: name, last byte of the identifier, origin, pinned, whether there is a version, how many
+/// extensions, dependencies and optional ones.
+const FULL_SHOWN: &str = "Dates 48 std false true 0 Printf49 , \n\
+    Lib 2 path false true 2 , Dates48 \n\
+    Old 3 tree true true 0 Lib2 , \n\
+    Printf 49 std false false 0 , \n\
+    Work 4 repo false true 0 Lib2 Printf49 , \n";
+
 #[test]
 fn a_manifest_of_every_kind_of_stanza_is_read(rt: HostRuntime) -> Result<(), Fail> {
     let manifest = Manifest::read(rt.alloc(), FULL.as_bytes())?;
     assert!(rt; manifest.julia_version.is_some());
-    let stanzas = manifest.stanzas.items();
-    assert_eq!(rt; stanzas.len(), 5);
-    for (place, name, origin, pinned, deps, weak) in [
-        (0, "Dates", "std", false, "Printf49 ", ""),
-        (1, "Lib", "path", false, "", "Dates48 "),
-        (2, "Old", "tree", true, "Lib2 ", ""),
-        (3, "Printf", "std", false, "", ""),
-        (4, "Work", "repo", false, "Lib2 Printf49 ", ""),
-    ] {
-        let stanza = &stanzas[place];
-        assert_eq!(rt; stanza.name.as_str(), name);
-        assert_eq!(rt; kind(&stanza.origin), origin, "{name}");
-        assert_eq!(rt; stanza.pinned, pinned, "{name}");
-        assert_eq!(rt; shown(rt.alloc(), &stanza.deps)?.as_str(), deps, "{name}");
-        assert_eq!(rt;
-            shown(rt.alloc(), &stanza.weakdeps)?.as_str(),
-            weak,
-            "{name}"
-        );
-    }
+    assert_eq!(rt; shown_all(rt.alloc(), &manifest)?.as_str(), FULL_SHOWN);
     Ok(())
 }
 
@@ -79,10 +68,12 @@ fn a_manifest_of_every_kind_of_stanza_is_read(rt: HostRuntime) -> Result<(), Fai
 fn extensions_have_their_triggers_and_a_repository_its_parts(rt: HostRuntime) -> Result<(), Fail> {
     let manifest = Manifest::read(rt.alloc(), FULL.as_bytes())?;
     let stanzas = manifest.stanzas.items();
-    let (first, triggers) = &stanzas[1].extensions.items()[1];
+    assert_eq!(rt; stanzas.len(), 5);
+    let extensions = stanzas[1].extensions.items();
+    assert_eq!(rt; extensions.len(), 2);
+    let (first, triggers) = &extensions[1];
     assert_eq!(rt; first.as_str(), "LibMoreExt");
     assert_eq!(rt; triggers.items().len(), 2);
-    assert!(rt; stanzas[3].version.is_none());
     let origin = stanzas[4].origin.copy(rt.alloc())?;
     assert_eq!(rt;
         parts(rt.alloc(), &origin)?.as_str(),

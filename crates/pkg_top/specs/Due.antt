@@ -3,7 +3,8 @@ use Rattle.std.specs.Prelude.{ℕ, List, codes, Option, Some, None, option_map, 
 use Rattle.pkg_world.specs.declared.place.Place.{Place}
 use Rattle.pkg_world.specs.Tree.{Files}
 use Rattle.env_maps.specs.Active.{active_file}
-use Rattle.env_maps.specs.Maps.{Env, Read, env_in}
+use Rattle.env_maps.specs.Files.{Read}
+use Rattle.env_maps.specs.Maps.{Env, env_in}
 use Rattle.pkg_top.specs.declared.status.Status.{Status}
 use Rattle.pkg_top.specs.declared.status.Status.TheVariants.{BadWords, BadFile, NoIdentity, NoSource, NotBuilt}
 use Rattle.pkg_top.specs.Lines.{found_line}

@@ -7,6 +7,7 @@ pub mod OfferTables
 pub mod OffersDue
 pub mod StatusDue
 pub mod VerifyDue
+pub mod VerifySteps
 pub mod Due
 pub mod Answers
 pub mod Home

@@ -14,11 +14,15 @@ mod stanza_line;
 mod status;
 mod status_lines;
 #[cfg(test)]
+mod status_lines_tests;
+#[cfg(test)]
 mod status_tests;
 #[cfg(test)]
 mod tests;
 #[cfg(test)]
 mod tests_offers;
+#[cfg(test)]
+mod tests_verify;
 mod top;
 mod verify;
 mod which;

@@ -62,12 +62,7 @@ fn of_both<S: Store>(
     }
 }
 
-fn text_of(
-    alloc: Global,
-    all: bool,
-    both: &Both,
-    packed: &[NormPath],
-) -> Result<String, AllocError>
+fn text_of(alloc: Global, all: bool, both: &Both, packed: &[NormPath]) -> Result<String, AllocError>
     ensures { IfOk result (λ text. string_bytes text ≡ spec.status_text all (seen_both both.now) packed.now) }
 {
     let mut text = String::new(alloc);
@@ -78,12 +73,7 @@ fn text_of(
 }
 
 #[tactic(auto, unfolding(project_file::specs::Said::said))]
-fn push_packages(
-    alloc: Global,
-    text: &mut String,
-    all: bool,
-    both: &Both,
-) -> Result<(), AllocError>
+fn push_packages(alloc: Global, text: &mut String, all: bool, both: &Both) -> Result<(), AllocError>
     ensures { OnOk result (string_bytes text.new ≡ string_bytes text.old ++ spec.package_lines all (seen_both both.now)) }
 {
     let stanzas = both.manifest.stanzas.items();

@@ -8,7 +8,7 @@ use std::alloc::{AllocError, Global};
 use std::test::Fail;
 
 /// A path and the text of the file there.
-type File = (&'static str, &'static str);
+pub(crate) type File = (&'static str, &'static str);
 
 const APP: File = (
     "/p/Project.toml",
@@ -192,7 +192,11 @@ const REFUSED: [(File, &str); 23] = [
     (LIB_ABOVE, "BadShape deps.Lib.path"),
 ];
 
-fn fill<S: Store>(alloc: Global, store: &mut S, files: &[File]) -> Result<(), PathFault> {
+pub(crate) fn fill<S: Store>(
+    alloc: Global,
+    store: &mut S,
+    files: &[File],
+) -> Result<(), PathFault> {
     for (path, text) in files {
         let path = NormPath::join(alloc, &NormPath::root(alloc), path)?;
         let _ = store.replace(alloc, &path, text.as_bytes());
@@ -218,7 +222,7 @@ fn seen(alloc: Global, ended: &Ended, out: &[u8], err: &[u8]) -> Result<String, 
 }
 
 /// What a command prints.
-fn told<S: Store>(
+pub(crate) fn told<S: Store>(
     alloc: Global,
     command: &str,
     place: &Place,
@@ -232,7 +236,11 @@ fn told<S: Store>(
 }
 
 /// The place of the folder `/p`, with a project text and a load path.
-fn place_with(alloc: Global, project: &str, load_path: Option<&str>) -> Result<Place, PlaceFault> {
+pub(crate) fn place_with(
+    alloc: Global,
+    project: &str,
+    load_path: Option<&str>,
+) -> Result<Place, PlaceFault> {
     place_from(
         alloc,
         "/p",
@@ -246,7 +254,7 @@ fn place_with(alloc: Global, project: &str, load_path: Option<&str>) -> Result<P
 }
 
 /// What a command prints over a project file and two more files.
-fn told_over(
+pub(crate) fn told_over(
     alloc: Global,
     place: &Place,
     command: &str,

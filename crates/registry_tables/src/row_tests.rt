@@ -328,24 +328,24 @@ fn a_package_that_is_not_listed_has_no_tables(rt: HostRuntime) -> Result<(), Fai
     Ok(())
 }
 
-/// The second read is that of the package's own file, since the first is the registry's.
-const READS: [&str; 6] = [
-    "ReadFault /r/A/Package.toml",
-    "ReadFault /r/A/Versions.toml",
-    "ReadFault /r/A/Deps.toml",
-    "ReadFault /r/A/Compat.toml",
-    "ReadFault /r/A/WeakDeps.toml",
-    "ReadFault /r/A/WeakCompat.toml",
+/// Reads that fail, and the file that the fault names. The first read is that of the registry's own file.
+const READS: [(u64, &str); 6] = [
+    (2, "ReadFault /r/A/Package.toml"),
+    (3, "ReadFault /r/A/Versions.toml"),
+    (4, "ReadFault /r/A/Deps.toml"),
+    (5, "ReadFault /r/A/Compat.toml"),
+    (6, "ReadFault /r/A/WeakDeps.toml"),
+    (7, "ReadFault /r/A/WeakCompat.toml"),
 ];
 
 #[test]
 fn each_failing_read_answers_with_its_file(rt: HostRuntime) -> Result<(), Fail> {
-    for (place, want) in READS.iter().enumerate() {
+    for (nth, want) in READS {
         let mut store = world(rt.alloc(), &[THREE, DEPS, COMPAT])?;
-        store.fail_at(rt.alloc(), StoreCall::Read, place as u64 + 2)?;
+        store.fail_at(rt.alloc(), StoreCall::Read, nth)?;
         let registry = loaded(rt.alloc(), &mut store)?;
         let found = answer(rt.alloc(), &mut store, &registry, &id(3))?;
-        assert_eq!(rt; found.as_str(), *want);
+        assert_eq!(rt; found.as_str(), want);
     }
     Ok(())
 }

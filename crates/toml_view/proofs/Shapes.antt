@@ -49,8 +49,8 @@ each_shapes : {T : Type 0} (read : Data → Result T Refusal) → ((value : Data
 each_shapes read all no_members = tt
 each_shapes read all (member key value more) =
     chained_shapes (λ v. mapped (λ vs. (key, v) ∷ vs) (each read more)) (at key (read value))
-        (λ v. mapped_shapes (λ vs. (key, v) ∷ vs) (each read more) (each_shapes read all more))
-        (at_shapes key (read value) (all value))
+    (λ v. mapped_shapes (λ vs. (key, v) ∷ vs) (each read more) (each_shapes read all more))
+    (at_shapes key (read value) (all value))
 
 one_shapes : (text : Option (List ℕ)) (many : Result (List (List ℕ)) Refusal) → AreShapes many → AreShapes (one_or text many)
 one_shapes (Some text) many shapes = tt
@@ -68,7 +68,7 @@ opt_shapes read key all (Some value) = mapped_shapes (λ v. Some v) (at key (rea
 pub uuids_at_shapes : (key : List ℕ) (members : Members) → AreShapes (table_at uuid_of key members)
 uuids_at_shapes key members =
     mapped_shapes or_empty (opt (table_of uuid_of) key members)
-        (opt_shapes (table_of uuid_of) key (λ value. chained_shapes (each uuid_of) (or_shape (as_table value)) (each_shapes uuid_of uuid_shapes) (or_shapes (as_table value))) (get_member key members))
+    (opt_shapes (table_of uuid_of) key (λ value. chained_shapes (each uuid_of) (or_shape (as_table value)) (each_shapes uuid_of uuid_shapes) (or_shapes (as_table value))) (get_member key members))
 
 -- what stands at a key as texts
 pub texts_at_shapes : (key : List ℕ) (members : Members) → AreShapes (texts_at key members)
