@@ -1,5 +1,5 @@
 -- What a fault tells of one reading it tells of a reading that is refused with it.
-use Rattle.std.proofs.Common.{◌≡◌, List, ◌++◌, ◌∷◌, Option, Some, Result, Ok, Err, refl, ap, ◌∙◌, sym}
+use Rattle.std.proofs.Common.{◌≡◌, List, ◌∷◌, Result, Ok, Err, ap, ◌∙◌}
 use Rattle.toml_view.specs.Causes.{then_read}
 use Rattle.pkg_world.specs.declared.cause.Cause.{Cause}
 use Rattle.pkg_world.specs.declared.cause.Cause.TheVariants.{BadToml, Deep, BadShape, BadVersion, SameUuid, Dangling, Unclear}

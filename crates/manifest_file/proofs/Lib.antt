@@ -1,6 +1,11 @@
+pub mod Carried
 pub mod Faults
+pub mod GroupsBack
 pub mod Groups
+pub mod Ordered
 pub mod Orders
 pub mod Puts
 pub mod Sorts
+pub mod StanzasBack
+pub mod ValuesBack
 pub mod Walks

@@ -1,5 +1,5 @@
 -- Putting a key before the others of a table.
-use Rattle.std.proofs.Common.{◌≡◌, ◌≤◌, ◌-◌, ℕ, zero, suc, Bool, true, false, ◌&&◌, List, [], ◌∷◌, ◌++◌, map, drop, String, Global, Option, Some, None, string_bytes, string_cmp, Less, Equal, Greater, Ordering, refl, ap, sym, ◌∙◌}
+use Rattle.std.proofs.Common.{◌≡◌, ◌-◌, ℕ, zero, suc, Bool, true, false, ◌&&◌, List, [], ◌∷◌, map, drop, String, Global, Some, None, string_bytes, string_cmp, Less, Equal, Greater, Ordering, refl, ap, sym, ◌∙◌}
 use Rattle.std.specs.Ordering.{nat_cmp, is_lt, match_ordering}
 use Rattle.std.specs.Cmp.Lexicographic.{slice_cmp}
 use Rattle.std.specs.BTreeMap.{insert_entry}
@@ -8,7 +8,7 @@ use Rattle.toml.specs.Data.{Data, Members, member, is_before}
 use Rattle.toml.specs.View.{view, members_view}
 use Rattle.toml.specs.declared.value.Value.{Value}
 use Rattle.pkg_world.specs.ByName.{is_by_name}
-use Rattle.manifest_file.specs.Written.{Puts, member_opt, members_opt}
+use Rattle.manifest_file.specs.Written.{Puts, members_opt}
 
 abbrev Entry : Type 0
 Entry = String Global × Value

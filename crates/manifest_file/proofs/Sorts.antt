@@ -1,5 +1,5 @@
 -- Names in the order of a map.
-use Rattle.std.proofs.Common.{◌≡◌, ℕ, List, [], ◌∷◌, map, String, Global, string_bytes, string_cmp, Less, Equal, Greater, Ordering, Bool, true, false, refl, ap, ◌∙◌, T}
+use Rattle.std.proofs.Common.{◌≡◌, ℕ, List, [], ◌∷◌, String, Global, string_bytes, string_cmp, Less, Equal, Greater, Bool, true, false, refl, ap, T}
 use Rattle.std.specs.Ordering.{nat_cmp, match_ordering}
 use Rattle.std.specs.Cmp.Lexicographic.{slice_cmp, nat_list_cmp_total}
 use Rattle.std.specs.BTreeMap.{insert_entry}

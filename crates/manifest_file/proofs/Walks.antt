@@ -1,15 +1,14 @@
 -- Going over what stands in a file: what was read so far, and the rest.
-use Rattle.std.proofs.Common.{◌≡◌, ◌==◌, ℕ, Bool, true, false, cond, if◌then◌else◌, ◌||◌, List, [], ◌∷◌, ◌++◌, map, length, drop, String, Global, Option, Some, None, unwrap_or, Result, Ok, Err, refl, ap, sym, ◌∙◌, append_assoc, arith}
+use Rattle.std.proofs.Common.{◌≡◌, ◌==◌, ℕ, Bool, true, false, cond, if◌then◌else◌, List, [], ◌∷◌, ◌++◌, map, length, String, Global, Option, Some, unwrap_or, Result, Ok, Err, refl, ap, sym, ◌∙◌, append_assoc, arith}
 use Rattle.std.proofs.lemmas.List.{map-append}
 use Rattle.std.proofs.lemmas.Bool.Decides.{nat_tests}
 use Rattle.std.specs.Str.{bytes_eq}
-use Rattle.std.specs.List.{flat_map}
 use Rattle.toml.specs.View.{members_view}
 use Rattle.toml.specs.declared.value.Value.{Value}
 use Rattle.toml_view.specs.Causes.{then_read}
 use Rattle.pkg_world.specs.declared.cause.Cause.{Cause}
 use Rattle.manifest_file.specs.Entries.{is_blank}
-use Rattle.manifest_file.specs.Saying.{SaidStanza, Groups, all_read, flat, first_again, bearers_of, bearers_in, stanzas_by, stanzas_named}
+use Rattle.manifest_file.specs.Saying.{SaidStanza, Groups, all_read, first_again, bearers_of, bearers_in, stanzas_by, stanzas_named}
 use Rattle.manifest_file.specs.Said.{said_stanza}
 use Rattle.manifest_file.specs.Steps.{onto}
 use Rattle.manifest_file.specs.declared.entry.Entry.{Entry}

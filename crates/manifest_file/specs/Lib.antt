@@ -8,3 +8,4 @@ pub mod Steps
 pub mod Sorting
 pub mod Answers
 pub mod Written
+pub mod ReadsBack

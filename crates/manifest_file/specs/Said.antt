@@ -1,6 +1,5 @@
 -- A manifest as plain lists: the room that its lists set aside for more is no part of it.
-use Rattle.std.specs.Prelude.{ℕ, Bool, List, map, Option}
-use Rattle.jl_versions.specs.declared.version.Version.{Version}
+use Rattle.std.specs.Prelude.{map}
 use Rattle.manifest_file.specs.declared.manifest.Manifest.{Manifest}
 use Rattle.manifest_file.specs.declared.stanza.Stanza.{Stanza}
 use Rattle.manifest_file.specs.Saying.{SaidStanza, Said}

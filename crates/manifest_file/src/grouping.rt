@@ -5,6 +5,7 @@ ghost use Rattle.toml.specs.View.{view, table_view};
 ghost use Rattle.manifest_file.specs.Said.{said_stanza};
 ghost use Rattle.manifest_file.specs.Sorting.{bearers_by};
 ghost use Rattle.manifest_file.specs.Written as spec;
+ghost use Rattle.manifest_file.specs.ReadsBack.{StanzasBack};
 
 use crate::bearers::Index;
 use crate::put::put;
@@ -15,13 +16,15 @@ use std::alloc::{AllocError, Global};
 use toml_view::{Table, Value};
 
 /// The table of stanzas by name.
+#[tactic(auto, using(crate::proofs::Carried::stanzas_end))]
 pub(crate) fn stanzas_value(
     alloc: Global,
     index: &Index,
     stanzas: &[Stanza],
 ) -> Result<Value, AllocError>
     requires { IsTrue (spec.are_by_name (map said_stanza stanzas.now)) }
-    ensures { IfOk result (λ value. view value ≡ spec.stanzas_data (bearers_by index.now) (map said_stanza stanzas.now)) }
+    ensures data { IfOk result (λ value. view value ≡ spec.stanzas_data (bearers_by index.now) (map said_stanza stanzas.now)) }
+    ensures back { IfOk result (λ value. StanzasBack (bearers_by index.now) (map said_stanza stanzas.now)) }
 {
     let mut table = Table::new(alloc);
     let mut end = stanzas.len();
@@ -67,7 +70,8 @@ fn is_run_longer(stanzas: &[Stanza], start: usize) -> bool
 }
 
 fn group_value(alloc: Global, index: &Index, stanzas: &[Stanza]) -> Result<Value, AllocError>
-    ensures { IfOk result (λ value. view value ≡ spec.group_data (bearers_by index.now) (map said_stanza stanzas.now)) }
+    ensures data { IfOk result (λ value. view value ≡ spec.group_data (bearers_by index.now) (map said_stanza stanzas.now)) }
+    ensures back { IfOk result (λ value. StanzasBack (bearers_by index.now) (map said_stanza stanzas.now)) }
 {
     let mut list = Vec::new(alloc);
     for stanza in stanzas {

@@ -2,10 +2,11 @@
 ghost use Rattle.std.specs.Prelude.{◌≡◌, Ok, MatchResult, IfOk, IsTrue, unwrap_or, []};
 ghost use Rattle.toml.specs.View.{table_view};
 ghost use Rattle.toml_view.specs.Document.{viewed};
-ghost use Rattle.manifest_file.specs.Saying.{read_of, manifest_of, of_view, resolved, resolved_names};
+ghost use Rattle.manifest_file.specs.Saying.{read_of, manifest_of, of_view, resolved, resolved_names, stanzas_of};
 ghost use Rattle.manifest_file.specs.Said.{said};
 ghost use Rattle.manifest_file.specs.Sorting.{bearers_by};
 ghost use Rattle.manifest_file.specs.Written.{are_by_name, written, written_by};
+ghost use Rattle.manifest_file.specs.ReadsBack.{VersionBack, StanzasBack, StandOnce};
 ghost use Rattle.manifest_file.specs.Steps.{Reads, Refuses, StopFault, ViewFaultIs};
 
 use crate::bearers::{Index, index_of_stanzas};
@@ -36,9 +37,11 @@ impl Manifest {
     /// BadVersion for the first such key in the order of the keys' bytes; then as SameUuid with the identifier of the first
     /// stanza whose identifier an earlier one has; then as Dangling or Unclear for the first listed name that means no
     /// stanza, or several: by stanza, `deps` before `weakdeps`, each in the order of its list. A file without any key is an
-    /// empty manifest.
+    /// empty manifest. What is read stands in the order of the names' bytes, and no two stanzas have one identifier.
     pub fn read(alloc: Global, bytes: &[u8]) -> Result<Manifest, ManifestFault>
-        ensures { MatchResult result (λ m. read_of bytes.now ≡ Ok (said m)) (Refuses (read_of bytes.now)) }
+        ensures told { MatchResult result (λ m. read_of bytes.now ≡ Ok (said m)) (Refuses (read_of bytes.now)) }
+        ensures by_name { IfOk result (λ m. IsTrue (are_by_name (said m).stanzas)) }
+        ensures once { IfOk result (λ m. StandOnce (said m).stanzas) }
     {
         match view(alloc, bytes) {
             Ok(table) => of_table(alloc, &table),
@@ -48,10 +51,12 @@ impl Manifest {
 
     /// The table that says the manifest, in format 2.0. Dependencies are a list of names where each name has exactly one
     /// stanza, which has the identifier, and else a table; what is empty, absent or false isn't written. The caller's
-    /// stanzas stand in the order of their names' bytes. The one error is want of memory.
+    /// stanzas stand in the order of their names' bytes. Where no two have one identifier the table reads again to an equal
+    /// manifest. The one error is want of memory.
     pub fn to_table(&self, alloc: Global) -> Result<Table, AllocError>
         requires by_name { IsTrue (are_by_name (said self.now).stanzas) }
-        ensures { IfOk result (λ table. table_view table ≡ written (said self.now)) }
+        ensures written { IfOk result (λ table. table_view table ≡ written (said self.now)) }
+        ensures back { StandOnce (said self.now).stanzas → IfOk result (λ table. manifest_of (table_view table) ≡ Ok (said self.now)) }
     {
         let index = index_of_stanzas(alloc, self.stanzas.items())?;
         self.table_by(alloc, &index)
@@ -60,7 +65,9 @@ impl Manifest {
     /// The table, where the index tells who bears each name.
     fn table_by(&self, alloc: Global, index: &Index) -> Result<Table, AllocError>
         requires { IsTrue (are_by_name (said self.now).stanzas) }
-        ensures { IfOk result (λ table. table_view table ≡ written_by (bearers_by index.now) (said self.now)) }
+        ensures written { IfOk result (λ table. table_view table ≡ written_by (bearers_by index.now) (said self.now)) }
+        ensures version { IfOk result (λ table. VersionBack self.now.julia_version) }
+        ensures stanzas { IfOk result (λ table. StanzasBack (bearers_by index.now) (said self.now).stanzas) }
     {
         let mut table = Table::new(alloc);
         let format = Value::string(alloc, "2.0")?;
@@ -74,7 +81,9 @@ impl Manifest {
 }
 
 pub(crate) fn of_table(alloc: Global, table: &Table) -> Result<Manifest, ManifestFault>
-    ensures { Reads said (manifest_of (table_view table.now)) result }
+    ensures told { Reads said (manifest_of (table_view table.now)) result }
+    ensures by_name { IfOk result (λ m. IsTrue (are_by_name (said m).stanzas)) }
+    ensures once { IfOk result (λ m. StandOnce (said m).stanzas) }
 {
     match read_file(alloc, table) {
         Ok(entries) => of_entries(alloc, entries),
@@ -83,7 +92,9 @@ pub(crate) fn of_table(alloc: Global, table: &Table) -> Result<Manifest, Manifes
 }
 
 fn of_entries(alloc: Global, entries: Entries) -> Result<Manifest, ManifestFault>
-    ensures { Reads said (resolved entries) result }
+    ensures told { Reads said (resolved entries) result }
+    ensures by_name { IfOk result (λ m. IsTrue (are_by_name (said m).stanzas)) }
+    ensures once { IfOk result (λ m. StandOnce (said m).stanzas) }
 {
     match no_id_twice(alloc, entries.by_name.items()) {
         Ok(()) => with_ids_once(alloc, entries),
@@ -93,7 +104,9 @@ fn of_entries(alloc: Global, entries: Entries) -> Result<Manifest, ManifestFault
 
 /// The manifest of entries whose identifiers stand once.
 fn with_ids_once(alloc: Global, entries: Entries) -> Result<Manifest, ManifestFault>
-    ensures { Reads said (resolved_names entries) result }
+    ensures told { Reads said (resolved_names entries) result }
+    ensures by_name { IfOk result (λ m. IsTrue (are_by_name (said m).stanzas)) }
+    ensures stanzas { IfOk result (λ m. stanzas_of entries.by_name ≡ Ok (said m).stanzas) }
 {
     match all_resolved(alloc, entries.by_name.items()) {
         Ok(stanzas) => {

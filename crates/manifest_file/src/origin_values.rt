@@ -2,6 +2,7 @@
 ghost use Rattle.std.specs.Prelude.{◌≡◌, IfOk, option_map};
 ghost use Rattle.toml.specs.View.{view};
 ghost use Rattle.manifest_file.specs.Written as spec;
+ghost use Rattle.manifest_file.specs.ReadsBack.{OriginBack};
 
 use crate::origin::Origin;
 use crate::written::{name_or_none, name_value, tree_value};
@@ -9,7 +10,8 @@ use std::alloc::{AllocError, Global};
 use toml_view::Value;
 
 pub(crate) fn tree_of(alloc: Global, origin: &Origin) -> Result<Option<Value>, AllocError>
-    ensures { IfOk result (λ value. option_map view value ≡ spec.tree_data origin.now) }
+    ensures data { IfOk result (λ value. option_map view value ≡ spec.tree_data origin.now) }
+    ensures back { IfOk result (λ value. OriginBack origin.now) }
 {
     match origin {
         Origin::Tree(tree) => Ok(Some(tree_value(alloc, tree)?)),

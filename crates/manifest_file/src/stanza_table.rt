@@ -5,6 +5,7 @@ ghost use Rattle.toml.specs.View.{view, table_view};
 ghost use Rattle.manifest_file.specs.Said.{said_stanza};
 ghost use Rattle.manifest_file.specs.Sorting.{bearers_by};
 ghost use Rattle.manifest_file.specs.Written as spec;
+ghost use Rattle.manifest_file.specs.ReadsBack.{UuidBack, VersionBack, OriginBack, DependenciesBack, StanzaBack};
 
 use crate::bearers::Index;
 use crate::origin_values::{path_of, rev_of, subdir_of, tree_of, url_of};
@@ -22,7 +23,8 @@ pub(crate) fn stanza_value(
     index: &Index,
     stanza: &Stanza,
 ) -> Result<Value, AllocError>
-    ensures { IfOk result (λ value. view value ≡ spec.stanza_data (bearers_by index.now) (said_stanza stanza.now)) }
+    ensures data { IfOk result (λ value. view value ≡ spec.stanza_data (bearers_by index.now) (said_stanza stanza.now)) }
+    ensures back { IfOk result (λ value. StanzaBack (bearers_by index.now) (said_stanza stanza.now)) }
 {
     let mut table = Table::new(alloc);
     put_last(alloc, index, &mut table, stanza)?;
@@ -40,7 +42,10 @@ fn put_last(
     stanza: &Stanza,
 ) -> Result<(), AllocError>
     requires { table_view table.old ≡ no_members }
-    ensures { OnOk result (table_view table.new ≡ spec.members_opt (spec.last_puts (bearers_by index.now) (said_stanza stanza.now))) }
+    ensures shown { OnOk result (table_view table.new ≡ spec.members_opt (spec.last_puts (bearers_by index.now) (said_stanza stanza.now))) }
+    ensures uuid { OnOk result (UuidBack stanza.now.uuid) }
+    ensures version { OnOk result (VersionBack stanza.now.version) }
+    ensures weakdeps { OnOk result (DependenciesBack (bearers_by index.now) stanza.now.weakdeps.items) }
 {
     let weakdeps = dependencies_value(alloc, index, &stanza.weakdeps)?;
     put_some(alloc, table, "weakdeps", weakdeps)?;
@@ -76,7 +81,8 @@ fn put_later(
     stanza: &Stanza,
 ) -> Result<(), AllocError>
     requires { table_view table.old ≡ spec.members_opt (spec.repo_puts (bearers_by index.now) (said_stanza stanza.now)) }
-    ensures { OnOk result (table_view table.new ≡ spec.members_opt (spec.later_puts (bearers_by index.now) (said_stanza stanza.now))) }
+    ensures shown { OnOk result (table_view table.new ≡ spec.members_opt (spec.later_puts (bearers_by index.now) (said_stanza stanza.now))) }
+    ensures origin { OnOk result (OriginBack stanza.now.origin) }
 {
     let pinned = flag_value(stanza.pinned);
     put_some(alloc, table, "pinned", pinned)?;
@@ -104,7 +110,8 @@ fn put_first(
     stanza: &Stanza,
 ) -> Result<(), AllocError>
     requires { table_view table.old ≡ spec.members_opt (spec.later_puts (bearers_by index.now) (said_stanza stanza.now)) }
-    ensures { OnOk result (table_view table.new ≡ spec.members_opt (spec.stanza_puts (bearers_by index.now) (said_stanza stanza.now))) }
+    ensures shown { OnOk result (table_view table.new ≡ spec.members_opt (spec.stanza_puts (bearers_by index.now) (said_stanza stanza.now))) }
+    ensures deps { OnOk result (DependenciesBack (bearers_by index.now) stanza.now.deps.items) }
 {
     let extensions = extensions_value(alloc, &stanza.extensions)?;
     put_some(alloc, table, "extensions", extensions)?;

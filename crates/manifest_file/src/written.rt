@@ -6,17 +6,20 @@ ghost use Rattle.pkg_world.specs.ByName.{is_by_name};
 ghost use Rattle.pkg_world.specs.TreeIds.{tree_text};
 ghost use Rattle.manifest_file.specs.Sorting.{bearers_by};
 ghost use Rattle.manifest_file.specs.Written as spec;
+ghost use Rattle.manifest_file.specs.ReadsBack.{UuidBack, VersionBack, TreeBack, IdsBack, DependenciesBack};
 
 use crate::bearers::{Bearers, Index, named};
 use crate::put::put;
 use jl_versions::Version;
+use jl_versions::laws::text_means_one_version;
 use pkg_world::{ExtList, Name, NameIds, TreeId};
 use std::alloc::{AllocError, Global};
 use toml_view::{Table, Value};
 use uuid::Uuid;
 
 pub(crate) fn uuid_value(alloc: Global, id: &Uuid) -> Result<Value, AllocError>
-    ensures { IfOk result (λ value. view value ≡ spec.uuid_data id.now) }
+    ensures data { IfOk result (λ value. view value ≡ spec.uuid_data id.now) }
+    ensures back { IfOk result (λ value. UuidBack id.now) }
 {
     let mut buffer = Uuid::encode_buffer();
     let text = id.hyphenated().encode_lower(&mut buffer);
@@ -27,7 +30,8 @@ pub(crate) fn version_value(
     alloc: Global,
     version: &Option<Version>,
 ) -> Result<Option<Value>, AllocError>
-    ensures { IfOk result (λ value. option_map view value ≡ option_map spec.version_data version.now) }
+    ensures data { IfOk result (λ value. option_map view value ≡ option_map spec.version_data version.now) }
+    ensures back { IfOk result (λ value. VersionBack version.now) }
 {
     match version {
         Some(version) => Ok(Some(printed_value(alloc, version)?)),
@@ -36,17 +40,28 @@ pub(crate) fn version_value(
 }
 
 fn printed_value(alloc: Global, version: &Version) -> Result<Value, AllocError>
-    ensures { IfOk result (λ value. view value ≡ spec.version_data version.now) }
+    ensures data { IfOk result (λ value. view value ≡ spec.version_data version.now) }
+    ensures back { IfOk result (λ value. VersionBack (Some version.now)) }
 {
+    text_means_one_version();
     let text = version.print(alloc)?;
     Value::string(alloc, text.as_str())
 }
 
 pub(crate) fn tree_value(alloc: Global, tree: &TreeId) -> Result<Value, AllocError>
-    ensures { IfOk result (λ value. view value ≡ string (tree_text tree.now)) }
+    ensures data { IfOk result (λ value. view value ≡ string (tree_text tree.now)) }
+    ensures back { IfOk result (λ value. TreeBack tree.now) }
 {
+    digits_read_back(tree);
     let text = tree.text(alloc)?;
     Value::string(alloc, text.as_str())
+}
+
+/// The digits of a tree's identifier mean that tree.
+fn digits_read_back(tree: &TreeId)
+    ensures { TreeBack tree.now }
+{
+    let _ = tree.print();
 }
 
 pub(crate) fn name_value(alloc: Global, name: &Name) -> Result<Value, AllocError>
@@ -105,9 +120,11 @@ fn triggers_value(alloc: Global, names: &[Name]) -> Result<Value, AllocError>
     Ok(array_value(list))
 }
 
+#[tactic(auto, using(crate::proofs::Carried::ids_end))]
 fn ids_value(alloc: Global, ids: &[(Name, Uuid)]) -> Result<Value, AllocError>
     requires { IsTrue (is_by_name ids.now) }
-    ensures { IfOk result (λ value. view value ≡ spec.ids_data ids.now) }
+    ensures data { IfOk result (λ value. view value ≡ spec.ids_data ids.now) }
+    ensures back { IfOk result (λ value. IdsBack ids.now) }
 {
     let mut table = Table::new(alloc);
     let mut left = ids.len();
@@ -126,7 +143,8 @@ pub(crate) fn dependencies_value(
     index: &Index,
     ids: &NameIds,
 ) -> Result<Option<Value>, AllocError>
-    ensures { IfOk result (λ value. option_map view value ≡ spec.dependencies_data (bearers_by index.now) ids.now.items) }
+    ensures data { IfOk result (λ value. option_map view value ≡ spec.dependencies_data (bearers_by index.now) ids.now.items) }
+    ensures back { IfOk result (λ value. DependenciesBack (bearers_by index.now) ids.now.items) }
 {
     let ids = ids.items();
     if ids.is_empty() {

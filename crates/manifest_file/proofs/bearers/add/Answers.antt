@@ -1,4 +1,4 @@
-use Rattle.std.proofs.Common.{◌≡◌, Some, unwrap_or, if◌then◌else◌, ap, ◌∙◌, string_bytes}
+use Rattle.std.proofs.Common.{Some, unwrap_or, if◌then◌else◌, ap, ◌∙◌, string_bytes}
 use Rattle.std.specs.Str.{bytes_eq}
 use Rattle.std.specs.BTreeMap.{get_by_text}
 use Rattle.std.proofs.lemmas.Map.Text.{btree_map_updates_text}

@@ -1,5 +1,5 @@
-use Rattle.std.proofs.Common.{◌≡◌, subst, sym, map}
-use Rattle.manifest_file.specs.Saying.{stanzas_of, bearers_in}
+use Rattle.std.proofs.Common.{subst, map}
+use Rattle.manifest_file.specs.Saying.{bearers_in}
 use Rattle.manifest_file.specs.Sorting.{bearers_by}
 use Rattle.manifest_file.specs.Said.{said_stanza}
 use Rattle.manifest_file.specs.Steps.{Reads}

@@ -1,8 +1,7 @@
-use Rattle.std.proofs.Common.{◌≡◌, ◌∷◌, ◌++◌, List, ℕ, Result, Ok, Err, map, drop, ◌+◌, ap, sym, ◌∙◌, arith}
+use Rattle.std.proofs.Common.{◌≡◌, ◌∷◌, Ok, map, drop, ◌+◌, ap, ◌∙◌, arith}
 use Rattle.std.proofs.lemmas.Grind.{common_steps}
-use Rattle.pkg_world.specs.declared.cause.Cause.{Cause}
 use Rattle.toml_view.specs.Causes.{then_read}
-use Rattle.manifest_file.specs.Saying.{SaidStanza, all_read, stanza_of, stanzas_by, flat}
+use Rattle.manifest_file.specs.Saying.{all_read, stanza_of, stanzas_by, flat}
 use Rattle.manifest_file.specs.Said.{said_stanza}
 use Rattle.manifest_file.specs.Sorting.{bearers_by}
 use Rattle.manifest_file.specs.Steps.{Refuses, onto}

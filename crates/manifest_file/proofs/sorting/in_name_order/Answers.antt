@@ -1,4 +1,4 @@
-use Rattle.std.proofs.Common.{◌≡◌, true, ap, ◌∙◌}
+use Rattle.std.proofs.Common.{ap, ◌∙◌}
 use Rattle.pkg_world.specs.ByName.{is_by_name}
 use Rattle.manifest_file.proofs.Sorts.{by_name-in_name_order}
 use Rattle.manifest_file.proofs.sorting.in_name_order.Goals as goal

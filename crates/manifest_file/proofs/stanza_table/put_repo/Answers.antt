@@ -1,4 +1,4 @@
-use Rattle.std.proofs.Common.{◌≡◌, ◌∷◌, [], Some, codes, option_map, refl}
+use Rattle.std.proofs.Common.{◌∷◌, codes, option_map, refl}
 use Rattle.toml.specs.View.{view}
 use Rattle.manifest_file.specs.Said.{said_stanza}
 use Rattle.manifest_file.specs.Sorting.{bearers_by}
