@@ -6,6 +6,8 @@ mod host_store;
 #[cfg(test)]
 mod host_tests;
 mod surroundings;
+#[cfg(test)]
+mod world_tests;
 
 use host_sink::HostSink;
 use host_store::HostStore;

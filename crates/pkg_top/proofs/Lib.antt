@@ -1,3 +1,5 @@
 pub mod Depots
 pub mod Endings
 pub mod Found
+pub mod OfferReads
+pub mod OfferRows

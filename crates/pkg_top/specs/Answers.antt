@@ -31,7 +31,7 @@ RefusesEarly early _ = ⊥
 
 -- what is not built, and is told only after the words and the place
 abbrev pub late_words : List (List ℕ)
-late_words = codes "stanza" ∷ codes "offers" ∷ []
+late_words = codes "stanza" ∷ []
 
 abbrev pub is_late_word : List ℕ → Bool
 is_late_word word = list_any (bytes_eq word) late_words

@@ -2,6 +2,8 @@ pub mod Lines
 pub mod Pieces
 pub mod Words
 pub mod Import
+pub mod OfferLines
+pub mod OfferTables
 pub mod OffersDue
 pub mod StatusDue
 pub mod VerifyDue

@@ -4,6 +4,9 @@
 mod cause_line;
 mod early;
 mod home;
+mod offer_lines;
+mod offer_merge;
+mod offer_tables;
 mod offers;
 mod pieces;
 mod place;
@@ -16,6 +19,8 @@ mod status_lines_tests;
 mod status_tests;
 #[cfg(test)]
 mod tests;
+#[cfg(test)]
+mod tests_offers;
 #[cfg(test)]
 mod tests_verify;
 mod top;

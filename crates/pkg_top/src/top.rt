@@ -18,9 +18,10 @@ use std::alloc::Global;
 /// Runs one command: the words after the program's name, at a place, over a store. At Ok the answer goes to `out` in
 /// one piece; at every other status one line goes to `err`, and `out` gets nothing (a prefix at SinkFault).
 ///
-/// Where the store tells its files, status and line are those that the definitions give for them, by the command: `which`
-/// answers the import of a name from the top level over the active project (Julia manual, Code Loading); `offers`,
-/// `status` and `verify` are not built yet. No file is replaced.
+/// Where the store tells its files, status and text are those that the definitions give for them, by the command: `which`
+/// answers the import of a name from the top level over the active project (Julia manual, Code Loading), `status` tells
+/// the stanzas of its dependencies, `offers` the versions that registries list under a name, and `verify` whether an
+/// installed tree is the manifest's (Git's object format). No file is replaced.
 /// ReadFault and SinkFault come only where the store's and the sink's counts of faults rose, and want of memory is free.
 pub fn run<S: Store, O: Sink, E: Sink>(
     alloc: Global,

@@ -4,7 +4,6 @@ ghost use Rattle.std.specs.List.{filter_map, cons_option};
 ghost use Rattle.pkg_world.specs.Path.{joined, pieces_at};
 ghost use Rattle.manifest_file.specs.Said.{said_stanza};
 ghost use Rattle.depot_hash.specs.Folders.{folder_id as id_meant};
-ghost use Rattle.pkg_top.specs.Home.{seen_both};
 ghost use Rattle.pkg_top.specs.VerifyDue as spec;
 ghost use Rattle.pkg_top.specs.VerifySteps.{both_in_order, least_of_three, with_one, with_found};
 ghost use Rattle.pkg_top.specs.Answers.{Answers, Refuses, ReadFaultRose, NoFault, IsLate, IsUnprinted};

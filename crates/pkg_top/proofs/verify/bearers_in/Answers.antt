@@ -4,8 +4,8 @@ use Rattle.std.proofs.Math.Seq.{drop-cons}
 use Rattle.std.specs.List.{cons_option}
 use Rattle.manifest_file.specs.Said.{said_stanza}
 use Rattle.pkg_top.specs.VerifyDue.{Bearer, is_after, put_in_order, in_order, first_two, bearers_in, bearer_of, tree_stanzas}
-use Rattle.pkg_top.specs.VerifySteps.{both_in_order, least_of_three, with_one, with_found}
-use Rattle.pkg_top.specs.declared.verify.Bearers.TheVariants.{Nobody, One, Several}
+use Rattle.pkg_top.specs.VerifySteps.{with_one, with_found}
+use Rattle.pkg_top.specs.declared.verify.Bearers.TheVariants.{Several}
 use Rattle.pkg_top.proofs.verify.bearers_in.Goals as goal
 
 one_put : (bearer : Bearer) (rest : List Bearer) → first_two (put_in_order bearer rest) ≡ with_one bearer (first_two rest)

@@ -1,5 +1,5 @@
 -- A refusal of the two files is that of the whole answer.
-use Rattle.std.proofs.Common.{◌≡◌, Option, Some, None, IfSome, Result, Ok, Err, ap}
+use Rattle.std.proofs.Common.{Option, Some, None, IfSome, Result, ap}
 use Rattle.pkg_top.specs.declared.status.Status.{Status}
 use Rattle.pkg_top.specs.declared.status.Status.TheVariants.{Ok as StatusOk, BadWords, MissingFile, BadFile, NoIdentity, NoSource, ReadFault, UnknownName, AmbiguousName, Limit, Differs, NotInManifest, NotBuilt, Memory, SinkFault}
 use Rattle.pkg_top.specs.Answers.{Refuses}
