@@ -6,11 +6,10 @@
 offers: a registry of 12,000 packages, one of them with 400 versions and 40 sections in each table; the peer reads the bytes
 of the same files. status: a project file with 1 MiB of dependencies, and one of 2 MiB. verify: an installed tree of 20,000
 files and 200 MB; the peer is git, which hashes the same files and writes the tree. Each line is the least time of three
-runs, with the most memory that the process had.
+runs, with the most memory that the process had. Needs `/usr/bin/time`.
 """
 import os
 import random
-import resource
 import subprocess
 import sys
 import tempfile
@@ -35,13 +34,20 @@ def measured(words, env=None, cwd=None):
     """The least time of three runs in seconds, the most memory in KiB, and what was printed."""
     best, most, out = None, 0, b""
     for _ in range(3):
-        begin = time.monotonic()
-        process = subprocess.Popen(words, env=env, cwd=cwd, stdout=subprocess.PIPE, stderr=subprocess.PIPE)
-        out, err = process.communicate()
-        spent = time.monotonic() - begin
+        with tempfile.NamedTemporaryFile() as memory:
+            begin = time.monotonic()
+            ended = subprocess.run(
+                ["/usr/bin/time", "-q", "-o", memory.name, "-f", "%M"] + words,
+                env=env,
+                cwd=cwd,
+                stdout=subprocess.PIPE,
+                stderr=subprocess.STDOUT,
+                check=False,
+            )
+            spent = time.monotonic() - begin
+            most = max(most, int(memory.read().split()[-1]))
+        out = ended.stdout
         best = spent if best is None else min(best, spent)
-        out = out or err
-    most = resource.getrusage(resource.RUSAGE_CHILDREN).ru_maxrss
     return best, most, out
 
 
