@@ -29,20 +29,31 @@ fn identifier(last: u8) -> Uuid {
     Uuid::from_bytes([0, 0, 0, 0, 0, 0, 64, 0, 128, 0, 0, 0, 0, 0, 0, last])
 }
 
-fn causes(alloc: Global) -> Result<[Cause; 6], AllocError> {
-    let keys = Text::of(alloc, "a.b")?;
-    let more_keys = Text::of(alloc, "a.b")?;
+fn clash(alloc: Global) -> Result<Cause, AllocError> {
     let version = Text::of(alloc, "1.0.0")?;
     let first = Text::of(alloc, "x")?;
     let second = Text::of(alloc, "y,z")?;
-    Ok([
-        Cause::BadVersion(keys, 2),
-        Cause::BadSpec(more_keys, 0),
-        Cause::Clash(Name::of(alloc, "A")?, version, first, second),
-        Cause::SameUuid(identifier(10)),
-        Cause::Dangling(Name::of(alloc, "A")?, Name::of(alloc, "Q")?),
-        Cause::Unclear(Name::of(alloc, "A")?, Name::of(alloc, "Q")?),
-    ])
+    Ok(Cause::Clash(Name::of(alloc, "A")?, version, first, second))
+}
+
+fn dangling(alloc: Global) -> Result<Cause, AllocError> {
+    Ok(Cause::Dangling(Name::of(alloc, "A")?, Name::of(alloc, "Q")?))
+}
+
+fn unclear(alloc: Global) -> Result<Cause, AllocError> {
+    Ok(Cause::Unclear(Name::of(alloc, "A")?, Name::of(alloc, "Q")?))
+}
+
+/// The cause that a place in the table has.
+fn cause_at(alloc: Global, place: usize) -> Result<Cause, AllocError> {
+    match place {
+        0 => Ok(Cause::BadVersion(Text::of(alloc, "a.b")?, 2)),
+        1 => Ok(Cause::BadSpec(Text::of(alloc, "a.b")?, 0)),
+        2 => clash(alloc),
+        3 => Ok(Cause::SameUuid(identifier(10))),
+        4 => dangling(alloc),
+        _ => unclear(alloc),
+    }
 }
 
 fn refusals(alloc: Global) -> Result<[Status; 6], AllocError> {
@@ -63,8 +74,8 @@ fn refusals_are_told_with_what_they_carry(rt: HostRuntime) -> Result<(), Fail> {
         let line = status_line(alloc, &status)?;
         assert_eq!(rt; line.as_str(), want);
     }
-    for (cause, want) in causes(alloc)?.into_iter().zip(CAUSES) {
-        let status = Status::BadFile(NormPath::root(alloc), cause);
+    for (place, want) in CAUSES.into_iter().enumerate() {
+        let status = Status::BadFile(NormPath::root(alloc), cause_at(alloc, place)?);
         let line = status_line(alloc, &status)?;
         assert_eq!(rt; line.as_str(), want);
     }
