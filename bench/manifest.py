@@ -24,6 +24,7 @@ use std::alloc::Global;
 use std::{env, fs};
 use toml_view::{PrintFault, ViewFault, print_table, view};
 
+#[derive(Drop)]
 enum Lost {
     Read,
     Memory,
