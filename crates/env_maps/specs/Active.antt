@@ -69,9 +69,9 @@ in_first cwd (depot ∷ more) text = or_else cwd (joined depot text)
 abbrev pub default_folder : Place → Path
 default_folder place = in_first place.cwd place.depots.items (version_folder place.julia)
 
-abbrev pub or_next : Option Path → Option Path → Option Path
+abbrev pub or_next : {T : Type 0} → Option T → Option T → Option T
 or_next None next = next
-or_next (Some path) next = Some path
+or_next (Some found) next = Some found
 
 abbrev pub if_project : Files → Path → Option Path
 if_project files folder = if has_project files folder then Some folder else None

@@ -1,6 +1,12 @@
 pub mod Active
+pub mod ByName
+pub mod Candidates
+pub mod Each
+pub mod Elements
 pub mod Faults
-pub mod Seen
 pub mod Files
+pub mod Library
 pub mod ManifestPath
 pub mod Maps
+pub mod Seen
+pub mod ThreeMaps

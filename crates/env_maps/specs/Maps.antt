@@ -1,5 +1,5 @@
 -- The environment of a project and its maps (Julia manual, Code Loading): names to identities, and identities to entry paths.
-use Rattle.std.specs.Prelude.{ℕ, Bool, true, false, not, ◌&&◌, if◌then◌else◌, List, [], ◌∷◌, ◌++◌, codes, Option, Some, None, Result, Ok, Err}
+use Rattle.std.specs.Prelude.{ℕ, Bool, true, false, not, ◌&&◌, if◌then◌else◌, List, [], ◌∷◌, ◌++◌, codes, Option, Some, None, option_map, Result, Ok, Err}
 use Rattle.std.specs.Option.{option_and_then}
 use Rattle.std.specs.Str.{bytes_eq}
 use Rattle.pkg_world.specs.Path.{Path, joined, folder_of}
@@ -14,11 +14,16 @@ use Rattle.manifest_file.specs.declared.origin.Origin.{Origin}
 use Rattle.manifest_file.specs.declared.origin.Origin.TheVariants.{Tree, Path as PathOrigin, Repo, Std}
 use Rattle.depot_hash.specs.Installed.{installed_in}
 use Rattle.env_maps.specs.declared.id.Id.{Id}
+use Rattle.env_maps.specs.declared.id.Context.{Context}
+use Rattle.env_maps.specs.declared.id.Context.TheVariants.{Top, Package}
+use Rattle.env_maps.specs.declared.id.DepAnswer.{DepAnswer}
+use Rattle.env_maps.specs.declared.id.DepAnswer.TheVariants.{NotMine, NoName, Found}
+use Rattle.env_maps.specs.Library.{library_folder, library_read}
 use Rattle.env_maps.specs.Files.{Read, at_file, then_file, project_in, manifest_in}
 use Rattle.env_maps.specs.ManifestPath.{manifest_path}
 
 -- a project: where its file is or would be, the identity of its own package, its dependencies, and the stanzas of its
--- manifest with the folder from which their paths go
+-- manifest with the folder from which their paths go; the depots and the standard library folder of its place
 pub record Env : Type 0 where
   pub file : Path
   pub own : Option Id
@@ -26,6 +31,7 @@ pub record Env : Type 0 where
   pub folder : Path
   pub stanzas : List SaidStanza
   pub depots : List Path
+  pub stdlib : Option Path
 
 -- whether a path is none
 abbrev pub is_absent : Option Path → Bool
@@ -62,13 +68,13 @@ own_of None uuid = None
 abbrev pub env_of : Place → Path → project.Said → Path → manifest.Said → Read Env
 env_of place file said path found =
     at_file path (unless_escaping (first_escaping (folder_of path) found.stanzas)
-    (record { file = file; own = own_of said.name said.uuid; deps = said.deps; folder = folder_of path; stanzas = found.stanzas; depots = place.depots.items }))
+    (record { file = file; own = own_of said.name said.uuid; deps = said.deps; folder = folder_of path; stanzas = found.stanzas; depots = place.depots.items; stdlib = place.stdlib }))
 
 abbrev pub env_at : Files → Place → Path → project.Said → Path → Read Env
 env_at files place file said path = then_file (at_file path (manifest_in (holds path files))) (env_of place file said path)
 
 abbrev pub no_env : Place → Path → Env
-no_env place file = record { file = file; own = None; deps = []; folder = folder_of file; stanzas = []; depots = place.depots.items }
+no_env place file = record { file = file; own = None; deps = []; folder = folder_of file; stanzas = []; depots = place.depots.items; stdlib = place.stdlib }
 
 -- a project file that isn't there gives an environment without entries, whatever manifest lies beside it
 abbrev pub env_with : Files → Place → Path → Option project.Said → Read Env
@@ -120,22 +126,28 @@ entry_at files name path = if is_file (holds path files) then Some path else joi
 abbrev pub source_in : List ℕ → Option Path → Option Path
 source_in name folder = option_and_then (λ tree. joined tree (source_text name)) folder
 
--- the entry by where the package comes from; one of the standard library has no entry that is read yet
-abbrev pub origin_entry : Files → List Path → Path → List ℕ → List ℕ → Origin → Option Path
-origin_entry files depots folder name uuid (PathOrigin text) = option_and_then (entry_at files name) (joined folder text)
-origin_entry files depots folder name uuid (Tree tree) = source_in name (installed_in files depots name uuid tree)
-origin_entry files depots folder name uuid (Repo url rev subdir tree) = source_in name (installed_in files depots name uuid tree)
-origin_entry files depots folder name uuid Std = None
+-- the entry of a standard library is `src/X.jl` in its folder, where the project file there has the stanza's identifier
+abbrev pub library_entry : Option Path → Option (List ℕ) → List ℕ → List ℕ → Option Path
+library_entry stdlib library name uuid = if same_uuid (Some uuid) library then source_in name (library_folder stdlib name) else None
 
-abbrev pub stanza_entry : Files → List Path → Path → Option SaidStanza → Option Path
-stanza_entry files depots folder None = None
-stanza_entry files depots folder (Some stanza) = origin_entry files depots folder stanza.name stanza.uuid stanza.origin
+-- the entry by where the package comes from; `library` is the identifier that the standard library of its name has
+abbrev pub origin_entry : Files → List Path → Path → Option Path → Option (List ℕ) → List ℕ → List ℕ → Origin → Option Path
+origin_entry files depots folder stdlib library name uuid (PathOrigin text) = option_and_then (entry_at files name) (joined folder text)
+origin_entry files depots folder stdlib library name uuid (Tree tree) = source_in name (installed_in files depots name uuid tree)
+origin_entry files depots folder stdlib library name uuid (Repo url rev subdir tree) = source_in name (installed_in files depots name uuid tree)
+origin_entry files depots folder stdlib library name uuid Std = library_entry stdlib library name uuid
 
--- identities to paths: the project's own package has `src/X.jl` beside the project file, and comes before a stanza
-abbrev pub path_of : Files → Env → Id → Option Path
-path_of files env id =
+abbrev pub stanza_entry : Files → List Path → Path → Option Path → Option (List ℕ) → Option SaidStanza → Option Path
+stanza_entry files depots folder stdlib library None = None
+stanza_entry files depots folder stdlib library (Some stanza) =
+    origin_entry files depots folder stdlib library stanza.name stanza.uuid stanza.origin
+
+-- identities to paths, by the identifier that the standard library of the identity's name has: the project's own package
+-- has `src/X.jl` beside the project file, and comes before a stanza
+abbrev pub path_with : Files → Option (List ℕ) → Env → Id → Option Path
+path_with files library env id =
     if is_identity id env.own then joined (folder_of env.file) (source_text id.name)
-    else stanza_entry files env.depots env.folder (stanza_of id env.stanzas)
+    else stanza_entry files env.depots env.folder env.stdlib library (stanza_of id env.stanzas)
 
 abbrev pub is_std_origin : Origin → Bool
 is_std_origin Std = true
@@ -147,6 +159,31 @@ abbrev pub is_std : Option SaidStanza → Bool
 is_std None = false
 is_std (Some stanza) = is_std_origin stanza.origin
 
--- a stanza of the standard library has a form whose entry is not read yet
-abbrev pub is_unbuilt : Env → Id → Bool
-is_unbuilt env id = not (is_identity id env.own) && is_std (stanza_of id env.stanzas)
+-- whether an identity is a standard library by its stanza
+abbrev pub is_library : Env → Id → Bool
+is_library env id = not (is_identity id env.own) && is_std (stanza_of id env.stanzas)
+
+-- the identifier that counts for an identity's path; only for a standard library a file is read
+abbrev pub library_for : Files → Env → Id → Read (Option (List ℕ))
+library_for files env id = if is_library env id then library_read files env.stdlib id.name else Ok None
+
+-- the entry path of an identity, or the refused project file of its standard library
+abbrev pub entry_in : Files → Env → Id → Read (Option Path)
+entry_in files env id = then_file (library_for files env id) (λ library. Ok (path_with files library env id))
+
+-- contexts to their dependencies: those of the project for its own package, which comes before a stanza, else the stanza's
+abbrev pub graph_of : Env → Id → Option (List (List ℕ × List ℕ))
+graph_of env id = if is_identity id env.own then Some env.deps else option_map (λ stanza. stanza.deps) (stanza_of id env.stanzas)
+
+abbrev pub in_graph : (Id → Option (List (List ℕ × List ℕ))) → Context → Option (List (List ℕ × List ℕ))
+in_graph graph Top = None
+in_graph graph (Package id) = graph id
+
+abbrev pub found_or_none : Option Id → DepAnswer
+found_or_none None = NoName
+found_or_none (Some id) = Found id
+
+-- what an environment says of a name from a context, by the context's dependencies
+abbrev pub dep_answer : List ℕ → Option (List (List ℕ × List ℕ)) → DepAnswer
+dep_answer name None = NotMine
+dep_answer name (Some deps) = found_or_none (dep_of name deps)

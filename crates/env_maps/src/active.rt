@@ -91,7 +91,7 @@ fn by_text<S: Store>(
 }
 
 /// What follows an at sign that comes first in a text.
-fn behind_sign(text: &str) -> Option<&str>
+pub(crate) fn behind_sign(text: &str) -> Option<&str>
     requires { length text.now ≢ 0 }
     ensures { MatchOption result ((position_or_len spec.is_sign text.now == 0) ≡ false)
         (λ name. ((position_or_len spec.is_sign text.now == 0) ≡ true) × (name.now ≡ after_first spec.is_sign text.now)) }

@@ -8,29 +8,34 @@ ghost use Rattle.env_maps.specs.Maps as spec;
 ghost use Rattle.env_maps.specs.Faults.{OnlyReadFault};
 
 use crate::fault::EnvFault;
-use crate::there::is_there;
+use crate::id::is_uuid;
+use crate::library::library_folder;
+use crate::there::{is_there, path_in};
 use depot_hash::{FolderFault, installed};
 use manifest_file::{Origin, Stanza};
 use pkg_world::{Name, NormPath, NormPaths, PathFault, Store, TreeId};
 use std::alloc::{AllocError, Global};
 use uuid::Uuid;
 
-/// The entry file of a stanza, its path taken from the manifest's folder.
+/// The entry file of a stanza, its path taken from the manifest's folder; `library` is the identifier that the standard
+/// library of its name has.
 pub(crate) fn stanza_entry<S: Store>(
     alloc: Global,
     store: &mut S,
     depots: &NormPaths,
     folder: &NormPath,
+    stdlib: &Option<NormPath>,
+    library: &Option<Uuid>,
     stanza: Option<&Stanza>,
 ) -> Result<Option<NormPath>, EnvFault>
-    ensures path { IfSome (S.files store.old) (λ all. IfOk result (λ path. path ≡ spec.stanza_entry all depots.now.items folder.now (option_map said_stanza (option_copied stanza.entry)))) }
+    ensures path { IfSome (S.files store.old) (λ all. IfOk result (λ path. path ≡ spec.stanza_entry all depots.now.items folder.now stdlib.now library.now (option_map said_stanza (option_copied stanza.entry)))) }
     ensures refused { IfErr result (OnlyReadFault (S.read_faults store.old) (S.read_faults store.new)) }
     ensures files { S.files store.new ≡ S.files store.old }
     ensures later { S.read_faults store.old ≤ S.read_faults store.new }
     ensures other { S.write_faults store.new ≡ S.write_faults store.old }
 {
     match stanza {
-        Some(stanza) => origin_entry(alloc, store, depots, folder, stanza),
+        Some(stanza) => origin_entry(alloc, store, depots, folder, stdlib, library, stanza),
         None => Ok(None),
     }
 }
@@ -40,9 +45,11 @@ fn origin_entry<S: Store>(
     store: &mut S,
     depots: &NormPaths,
     folder: &NormPath,
+    stdlib: &Option<NormPath>,
+    library: &Option<Uuid>,
     stanza: &Stanza,
 ) -> Result<Option<NormPath>, EnvFault>
-    ensures path { IfSome (S.files store.old) (λ all. IfOk result (λ path. path ≡ spec.origin_entry all depots.now.items folder.now stanza.now.name stanza.now.uuid stanza.now.origin)) }
+    ensures path { IfSome (S.files store.old) (λ all. IfOk result (λ path. path ≡ spec.origin_entry all depots.now.items folder.now stdlib.now library.now stanza.now.name stanza.now.uuid stanza.now.origin)) }
     ensures refused { IfErr result (OnlyReadFault (S.read_faults store.old) (S.read_faults store.new)) }
     ensures files { S.files store.new ≡ S.files store.old }
     ensures later { S.read_faults store.old ≤ S.read_faults store.new }
@@ -53,7 +60,26 @@ fn origin_entry<S: Store>(
         Origin::Path(text) => path_entry(alloc, store, folder, name, text),
         Origin::Tree(tree) => tree_entry(alloc, store, depots, name, uuid, tree),
         Origin::Repo { tree, .. } => tree_entry(alloc, store, depots, name, uuid, tree),
-        Origin::Std => Ok(None),
+        Origin::Std => Ok(library_entry(alloc, stdlib, library, name, uuid)?),
+    }
+}
+
+/// The entry of a standard library: `src/X.jl` in its folder, where the project file there has the stanza's identifier.
+fn library_entry(
+    alloc: Global,
+    stdlib: &Option<NormPath>,
+    library: &Option<Uuid>,
+    name: &Name,
+    uuid: &Uuid,
+) -> Result<Option<NormPath>, AllocError>
+    ensures { IfOk result (λ path. path ≡ spec.library_entry stdlib.now library.now name.now uuid.now) }
+{
+    if !is_uuid(library, uuid) {
+        return Ok(None);
+    }
+    match library_folder(alloc, stdlib, name)? {
+        Some(folder) => source_inside(alloc, &folder, name),
+        None => Ok(None),
     }
 }
 
@@ -136,7 +162,7 @@ pub(crate) fn source_beside(
 }
 
 /// `src/X.jl` inside a folder; None where it would rise above the root.
-fn source_inside(
+pub(crate) fn source_inside(
     alloc: Global,
     folder: &NormPath,
     name: &Name,
@@ -144,11 +170,7 @@ fn source_inside(
     ensures { IfOk result (λ path. path ≡ joined folder.now (spec.source_text name.now)) }
 {
     let text = source_text(alloc, name)?;
-    match NormPath::join(alloc, folder, text.as_str()) {
-        Ok(path) => Ok(Some(path)),
-        Err(PathFault::Escapes) => Ok(None),
-        Err(PathFault::Memory) => Err(AllocError),
-    }
+    path_in(alloc, folder, text.as_str())
 }
 
 fn source_text(alloc: Global, name: &Name) -> Result<String, AllocError>

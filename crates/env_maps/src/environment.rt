@@ -12,7 +12,8 @@ use crate::entry::{source_beside, stanza_entry};
 use crate::escaping::{first_escaping, path_refused};
 use crate::fault::EnvFault;
 use crate::file::{manifest_at, project_at};
-use crate::id::{Context, Id};
+use crate::id::{Context, DepAnswer, Id, is_uuid};
+use crate::library::library_uuid;
 use crate::manifest_place::manifest_path;
 use manifest_file::{Manifest, Origin, Stanza, Stanzas};
 use pkg_world::{Duplicate, Name, NameIds, NormPath, NormPaths, Place, Store};
@@ -31,6 +32,7 @@ pub struct ProjectEnv {
     folder: NormPath,
     stanzas: Stanzas,
     depots: NormPaths,
+    stdlib: Option<NormPath>,
 }
 
 impl Model for ProjectEnv {
@@ -40,7 +42,7 @@ impl Model for ProjectEnv {
 
     ghost Value = { Env };
 
-    ghost view = { λ a. record { file = a.file; own = a.own; deps = a.deps.items; folder = a.folder; stanzas = map said_stanza a.stanzas.items; depots = a.depots.items } };
+    ghost view = { λ a. record { file = a.file; own = a.own; deps = a.deps.items; folder = a.folder; stanzas = map said_stanza a.stanzas.items; depots = a.depots.items; stdlib = a.stdlib } };
 }
 
 impl ProjectEnv {
@@ -84,12 +86,47 @@ impl ProjectEnv {
         }
     }
 
+    /// What the project's graph says of a name from a context: the project's own package has the dependencies of its
+    /// file, and each other package those of its stanza. (Julia manual, Code Loading.) The one error is want of memory.
+    pub fn dep(
+        &self,
+        alloc: Global,
+        context: &Context,
+        name: &Name,
+    ) -> Result<DepAnswer, AllocError>
+        ensures { IfOk result (λ answer. answer ≡ spec.dep_answer name.now (spec.in_graph (spec.graph_of self.now) context.now)) }
+    {
+        match context {
+            Context::Top => Ok(DepAnswer::NotMine),
+            Context::Package(id) => self.dep_of_package(alloc, id, name),
+        }
+    }
+
+    fn dep_of_package(
+        &self,
+        alloc: Global,
+        package: &Id,
+        name: &Name,
+    ) -> Result<DepAnswer, AllocError>
+        ensures { IfOk result (λ answer. answer ≡ spec.dep_answer name.now (spec.graph_of self.now «package».now)) }
+    {
+        if self.is_own(package) {
+            return dep_among(alloc, self.deps.items(), name);
+        }
+        match self.stanza(package) {
+            Some(stanza) => dep_among(alloc, stanza.deps.items(), name),
+            None => Ok(DepAnswer::NotMine),
+        }
+    }
+
     /// The path of an identity's entry file, which need not be there: `src/X.jl` beside the project file for the
     /// project's own package X; for a stanza with a path the file itself where that path is a file, else `src/X.jl`
-    /// inside; for a stanza with a tree `src/X.jl` inside the installed tree. None exactly where the environment has no
+    /// inside; for a stanza with a tree `src/X.jl` inside the installed tree; for a standard library `X/src/X.jl` in
+    /// their folder, where X's project file there has the stanza's identifier. None exactly where the environment has no
     /// path for it.
     ///
-    /// Errors: ReadFault, where the store can't tell what is there; want of memory.
+    /// Errors: BadFile, exactly where the identity is a standard library whose project file is refused; ReadFault, where
+    /// the store can't read; want of memory.
     pub fn entry<S: Store>(
         &self,
         alloc: Global,
@@ -97,22 +134,71 @@ impl ProjectEnv {
         _context: &Context,
         id: &Id,
     ) -> Result<Option<NormPath>, EnvFault>
-        ensures path { IfSome (S.files store.old) (λ all. IfOk result (λ path. path ≡ spec.path_of all self.now id.now)) }
+        ensures told { IfSome (S.files store.old) (λ all. Loads (spec.entry_in all self.now id.now) result) }
+        ensures fault { IfErr result (ReadFaultRose (S.read_faults store.old) (S.read_faults store.new)) }
+        ensures files { S.files store.new ≡ S.files store.old }
+        ensures later { S.read_faults store.old ≤ S.read_faults store.new }
+        ensures other { S.write_faults store.new ≡ S.write_faults store.old }
+    {
+        match self.library_for(alloc, store, id) {
+            Ok(library) => Ok(self.entry_by(alloc, store, &library, id)?),
+            Err(fault) => Err(fault),
+        }
+    }
+
+    /// The same where the identifier that the standard library of the identity's name has is known already: no file is
+    /// read then, and ReadFault is the one refusal beside want of memory.
+    pub fn entry_by<S: Store>(
+        &self,
+        alloc: Global,
+        store: &mut S,
+        library: &Option<Uuid>,
+        id: &Id,
+    ) -> Result<Option<NormPath>, EnvFault>
+        ensures path { IfSome (S.files store.old) (λ all. IfOk result (λ path. path ≡ spec.path_with all library.now self.now id.now)) }
         ensures refused { IfErr result (OnlyReadFault (S.read_faults store.old) (S.read_faults store.new)) }
         ensures files { S.files store.new ≡ S.files store.old }
         ensures later { S.read_faults store.old ≤ S.read_faults store.new }
         ensures other { S.write_faults store.new ≡ S.write_faults store.old }
     {
         if self.is_own(id) {
-            Ok(source_beside(alloc, &self.file, &id.name)?)
+            return Ok(source_beside(alloc, &self.file, &id.name)?);
+        }
+        let stanza = self.stanza(id);
+        stanza_entry(
+            alloc,
+            store,
+            &self.depots,
+            &self.folder,
+            &self.stdlib,
+            library,
+            stanza,
+        )
+    }
+
+    /// The identifier that the standard library of the identity's name has, where the identity is one.
+    fn library_for<S: Store>(
+        &self,
+        alloc: Global,
+        store: &mut S,
+        id: &Id,
+    ) -> Result<Option<Uuid>, EnvFault>
+        ensures told { IfSome (S.files store.old) (λ all. Loads (spec.library_for all self.now id.now) result) }
+        ensures fault { IfErr result (ReadFaultRose (S.read_faults store.old) (S.read_faults store.new)) }
+        ensures files { S.files store.new ≡ S.files store.old }
+        ensures later { S.read_faults store.old ≤ S.read_faults store.new }
+        ensures other { S.write_faults store.new ≡ S.write_faults store.old }
+    {
+        if self.is_library(id) {
+            library_uuid(alloc, store, &self.stdlib, &id.name)
         } else {
-            stanza_entry(alloc, store, &self.depots, &self.folder, self.stanza(id))
+            Ok(None)
         }
     }
 
-    /// Whether the identity's stanza has a form whose entry is not read yet: one of the standard library.
-    pub fn is_unbuilt(&self, id: &Id) -> bool
-        ensures { result ≡ spec.is_unbuilt self.now id.now }
+    /// Whether the identity is a standard library by its stanza.
+    fn is_library(&self, id: &Id) -> bool
+        ensures { result ≡ spec.is_library self.now id.now }
     {
         !self.is_own(id) && is_std(self.stanza(id))
     }
@@ -166,6 +252,20 @@ fn dependency_among(
     Ok(None)
 }
 
+/// What a context's dependencies say of a name.
+pub(crate) fn dep_among(
+    alloc: Global,
+    deps: &[(Name, Uuid)],
+    name: &Name,
+) -> Result<DepAnswer, AllocError>
+    ensures { IfOk result (λ answer. answer ≡ spec.dep_answer name.now (Some deps.now)) }
+{
+    match dependency_among(alloc, deps, name)? {
+        Some(id) => Ok(DepAnswer::Found(id)),
+        None => Ok(DepAnswer::NoName),
+    }
+}
+
 fn stanza_among<'a>(stanzas: &'a [Stanza], id: &Id) -> Option<&'a Stanza>
     ensures { option_map said_stanza (option_copied result) ≡ spec.stanza_of id.now (map said_stanza stanzas.now) }
 {
@@ -203,15 +303,6 @@ fn is_same(one: &Option<Uuid>, other: &Option<Uuid>) -> bool
     }
 }
 
-fn is_uuid(given: &Option<Uuid>, uuid: &Uuid) -> bool
-    ensures { result ≡ spec.same_uuid (Some uuid.now) given.now }
-{
-    match given {
-        Some(given) => *uuid == *given,
-        None => false,
-    }
-}
-
 fn is_std(stanza: Option<&Stanza>) -> bool
     ensures { result ≡ spec.is_std (option_map said_stanza (option_copied stanza.entry)) }
 {
@@ -243,6 +334,7 @@ fn empty(alloc: Global, place: &Place, file: &NormPath) -> Result<ProjectEnv, Al
         folder: file.folder(alloc)?,
         stanzas: Stanzas::make(alloc),
         depots: place.depots.copy(alloc)?,
+        stdlib: stdlib_of(alloc, place)?,
     })
 }
 
@@ -307,6 +399,16 @@ fn with_stanzas(
     }
 }
 
+/// A copy of the path of the standard library folder, where there is one.
+fn stdlib_of(alloc: Global, place: &Place) -> Result<Option<NormPath>, AllocError>
+    ensures { IfOk result (λ folder. folder ≡ place.now.stdlib) }
+{
+    match &place.stdlib {
+        Some(folder) => Ok(Some(folder.copy(alloc)?)),
+        None => Ok(None),
+    }
+}
+
 fn made(
     alloc: Global,
     place: &Place,
@@ -315,7 +417,7 @@ fn made(
     folder: NormPath,
     manifest: Manifest,
 ) -> Result<ProjectEnv, AllocError>
-    ensures { IfOk result (λ env. env ≡ record { file = file.now; own = spec.own_of project.name project.uuid; deps = project.deps.items; folder = folder; stanzas = map said_stanza manifest.stanzas.items; depots = place.now.depots.items }) }
+    ensures { IfOk result (λ env. env ≡ record { file = file.now; own = spec.own_of project.name project.uuid; deps = project.deps.items; folder = folder; stanzas = map said_stanza manifest.stanzas.items; depots = place.now.depots.items; stdlib = place.now.stdlib }) }
 {
     let Manifest { stanzas, .. } = manifest;
     let Project {
@@ -331,5 +433,6 @@ fn made(
         folder,
         stanzas,
         depots: place.depots.copy(alloc)?,
+        stdlib: stdlib_of(alloc, place)?,
     })
 }

@@ -25,7 +25,11 @@ pub(crate) fn file_in<S: Store>(
 }
 
 /// Whether a folder has a project file.
-fn has_project<S: Store>(alloc: Global, store: &mut S, folder: &NormPath) -> Result<bool, EnvFault>
+pub(crate) fn has_project<S: Store>(
+    alloc: Global,
+    store: &mut S,
+    folder: &NormPath,
+) -> Result<bool, EnvFault>
     ensures found { IfSome (S.files store.old) (λ all. IfOk result (λ found. found ≡ spec.has_project all folder.now)) }
     ensures refused { IfErr result (OnlyReadFault (S.read_faults store.old) (S.read_faults store.new)) }
     ensures files { S.files store.new ≡ S.files store.old }

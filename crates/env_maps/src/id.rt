@@ -1,4 +1,7 @@
 //! Identities of packages, and from where an import is asked.
+ghost use Rattle.std.specs.Prelude.{◌≡◌, Some};
+ghost use Rattle.env_maps.specs.Maps.{same_uuid};
+
 use pkg_world::{Duplicate, Name};
 use std::alloc::{AllocError, Global};
 use uuid::Uuid;
@@ -24,4 +27,27 @@ impl Duplicate for Id {
 pub enum Context {
     /// From the top level, as in the REPL or a script.
     Top,
+    /// From inside a package.
+    Package(Id),
+}
+
+/// What an environment's graph says of a name from a context (Julia manual, Code Loading).
+#[derive(Debug, Drop)]
+pub enum DepAnswer {
+    /// The environment hasn't the context.
+    NotMine,
+    /// The context has no dependency of that name.
+    NoName,
+    /// The identity of that dependency.
+    Found(Id),
+}
+
+/// Whether the identifier is given.
+pub(crate) fn is_uuid(given: &Option<Uuid>, uuid: &Uuid) -> bool
+    ensures { result ≡ same_uuid (Some uuid.now) given.now }
+{
+    match given {
+        Some(given) => *uuid == *given,
+        None => false,
+    }
 }

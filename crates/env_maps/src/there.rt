@@ -1,13 +1,13 @@
 //! What stands at a path.
 ghost use Rattle.std.specs.Prelude.{◌≡◌, ◌≤◌, true, IfSome, IfOk, IfErr};
-ghost use Rattle.pkg_world.specs.Path.{is_plain};
+ghost use Rattle.pkg_world.specs.Path.{is_plain, joined};
 ghost use Rattle.pkg_world.specs.Tree.{holds, is_file as is_file_meant};
 ghost use Rattle.env_maps.specs.Active.{first_there as first_meant};
 ghost use Rattle.env_maps.specs.Faults.{OnlyReadFault};
 
 use crate::fault::EnvFault;
-use pkg_world::{NormPath, Store, Unread, is_file};
-use std::alloc::Global;
+use pkg_world::{NormPath, PathFault, Store, Unread, is_file};
+use std::alloc::{AllocError, Global};
 
 /// Whether a path is a file.
 pub(crate) fn is_there<S: Store>(
@@ -49,5 +49,20 @@ pub(crate) fn first_there<S: Store>(
         Ok(true) => Ok(path),
         Ok(false) => Ok(folder.child(alloc, other)?),
         Err(fault) => Err(fault),
+    }
+}
+
+/// The path that a text means inside a folder; None where it rises above the root.
+pub(crate) fn path_in(
+    alloc: Global,
+    folder: &NormPath,
+    text: &str,
+) -> Result<Option<NormPath>, AllocError>
+    ensures { IfOk result (λ path. path ≡ joined folder.now text.now) }
+{
+    match NormPath::join(alloc, folder, text) {
+        Ok(path) => Ok(Some(path)),
+        Err(PathFault::Escapes) => Ok(None),
+        Err(PathFault::Memory) => Err(AllocError),
     }
 }

@@ -22,24 +22,17 @@ Refuses due status = due ≡ Err status
 abbrev pub Answers : Result (List ℕ) Status → Result (String Global) Status → Type 0
 Answers due answer = MatchResult answer (λ line. due ≡ Ok (string_bytes line)) (Refuses due)
 
--- the refusal that is due by words and place alone, or want of memory
+-- the refusal that is due by the words alone, or want of memory
 abbrev pub RefusesEarly : Option Status → Status → Type 0
 RefusesEarly early (BadWords word) = early ≡ Some (BadWords word)
 RefusesEarly early (NotBuilt word) = early ≡ Some (NotBuilt word)
 RefusesEarly early Memory = Unit {0}
 RefusesEarly early _ = ⊥
 
--- what is not built, and is told only after the words and the place
-abbrev pub late_words : List (List ℕ)
-late_words = codes "stanza" ∷ []
-
-abbrev pub is_late_word : List ℕ → Bool
-is_late_word word = list_any (bytes_eq word) late_words
-
--- a status that words and place alone don't give
+-- a status that the words alone don't give
 abbrev pub IsLate : Status → Type 0
 IsLate (BadWords word) = ⊥
-IsLate (NotBuilt word) = is_late_word word ≡ true
+IsLate (NotBuilt word) = ⊥
 IsLate _ = Unit {0}
 
 -- over a store that may not tell its files: an early refusal comes exactly where it is due
@@ -103,6 +96,6 @@ IsPrinted line old new SinkFault = (kept : ℕ) × (new ≡ option_map (λ text.
 IsPrinted line old new Memory = new ≡ old
 IsPrinted line old new _ = ⊥
 
--- the refusal by words and place, or the answer after them
+-- the refusal by the words, or the answer after them
 abbrev pub AnswersTimely : Option Status → Result (String Global) Status → Type 0
 AnswersTimely early answer = MatchResult answer (λ line. early ≡ None) (IsTimely early)

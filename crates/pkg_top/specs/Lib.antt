@@ -1,7 +1,6 @@
 pub mod Lines
 pub mod Pieces
 pub mod Words
-pub mod Import
 pub mod OfferLines
 pub mod OfferTables
 pub mod OffersDue

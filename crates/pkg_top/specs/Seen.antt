@@ -8,10 +8,9 @@ use Rattle.pkg_top.specs.Pieces.{Word}
 use Rattle.pkg_top.specs.Words.{Asked, which, offers, status, verify, refused_words, not_built, asked}
 use Rattle.pkg_top.specs.Due.{early_due}
 use Rattle.pkg_top.specs.Answers.{RefusesEarly}
-use Rattle.pkg_world.specs.declared.place.Place.{Place}
 
 abbrev pub asked_of : code.Asked → Asked
-asked_of (Which name) = which name
+asked_of (Which name context) = which name context
 asked_of (Offers name) = offers name
 asked_of (StatusWords all) = status all
 asked_of (Verify name list) = verify name list
@@ -21,7 +20,6 @@ asked_of (NotBuilt word) = not_built word
 abbrev pub texts : List (String Global) → List Word
 texts words = map string_bytes words
 
--- what is asked where nothing is refused by words and place alone
-abbrev pub AsksFor : Place → List Word → Result code.Asked Status → Type 0
-AsksFor place words answer =
-    MatchResult answer (λ found. (early_due place words ≡ None) × (asked words ≡ asked_of found)) (RefusesEarly (early_due place words))
+-- what is asked where the words alone are not refused
+abbrev pub AsksFor : List Word → Result code.Asked Status → Type 0
+AsksFor words answer = MatchResult answer (λ found. (early_due words ≡ None) × (asked words ≡ asked_of found)) (RefusesEarly (early_due words))

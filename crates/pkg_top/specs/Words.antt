@@ -1,15 +1,19 @@
 -- What the words of a command mean. (own rule)
-use Rattle.std.specs.Prelude.{Bool, true, false, not, ◌==◌, ◌&&◌, ◌||◌, if◌then◌else◌, List, [], ◌∷◌, ◌++◌, length, codes, Option, Some, None, option_map}
-use Rattle.std.specs.List.{list_all, list_any, starts_with}
+use Rattle.std.specs.Prelude.{Bool, true, false, not, nat_lt, ◌==◌, ◌&&◌, ◌||◌, if◌then◌else◌, List, [], ◌∷◌, ◌++◌, length, codes, Option, Some, None, option_map}
+use Rattle.std.specs.List.{list_all, list_any, starts_with, position_or_len, before_first, after_first}
 use Rattle.std.specs.Str.{bytes_eq}
 use Rattle.std.specs.Option.{option_and_then}
 use Rattle.pkg_top.specs.declared.pieces.Piece.{Piece}
 use Rattle.pkg_top.specs.declared.pieces.Piece.TheVariants.{Operand, Flag, Value}
-use Rattle.pkg_top.specs.Pieces.{Word, pieces}
+use Rattle.uuid.specs.Text.{parsed}
+use Rattle.env_maps.specs.declared.id.Context.{Context}
+use Rattle.env_maps.specs.declared.id.Context.TheVariants.{Top, Package}
+use Rattle.pkg_top.specs.declared.words.NameAndValue.{NameAndValue}
+use Rattle.pkg_top.specs.Pieces.{Word, pieces, is_equals}
 
 pub data Asked : Type 0 where
-  -- `which` of a name
-  which : Word → Asked
+  -- `which` of a name from a context
+  which : Word → Context → Asked
   -- `offers` of a name
   offers : Word → Asked
   -- `status`, of every stanza or of the dependencies alone
@@ -52,27 +56,49 @@ one_flag [] = Some false
 one_flag (piece ∷ []) = flag_of piece
 one_flag (piece ∷ next ∷ more) = None
 
-abbrev pub name_with : Piece → Piece → Option Asked
-name_with named valued = option_and_then (λ name. option_map (λ value. verify name (Some value)) (value_of valued)) (name_of named)
+-- a name with the value of the command's option
+abbrev pub name_with : Piece → Piece → Option NameAndValue
+name_with named valued = option_and_then (λ name. option_map (λ value. record { name = name; value = Some value }) (value_of valued)) (name_of named)
 
-abbrev pub or_asked : Option Asked → Option Asked → Option Asked
-or_asked (Some asked) other = Some asked
-or_asked None other = other
+abbrev pub or_other : Option NameAndValue → Option NameAndValue → Option NameAndValue
+or_other (Some named) other = Some named
+or_other None other = other
 
 -- exactly one name, and before or behind it the value, at most once
-abbrev pub name_and_value : List Piece → Option Asked
+abbrev pub name_and_value : List Piece → Option NameAndValue
 name_and_value [] = None
-name_and_value (piece ∷ []) = option_map (λ name. verify name None) (name_of piece)
-name_and_value (first ∷ second ∷ []) = or_asked (name_with first second) (name_with second first)
+name_and_value (piece ∷ []) = option_map (λ name. record { name = name; value = None }) (name_of piece)
+name_and_value (first ∷ second ∷ []) = or_other (name_with first second) (name_with second first)
 name_and_value (first ∷ second ∷ third ∷ more) = None
+
+abbrev pub package_of : Word → Word → Option Context
+package_of name text = if is_name name then option_map (λ uuid. Package (record { uuid = Some uuid; name = name })) (parsed text) else None
+
+-- a context: `NAME`, a package without identifier, or `NAME=UUID`
+abbrev pub context_of : Word → Option Context
+context_of text =
+    if nat_lt (position_or_len is_equals text) (length text) then package_of (before_first is_equals text) (after_first is_equals text)
+    else if is_name text then Some (Package (record { uuid = None; name = text }))
+    else None
+
+-- the context that is given, else the top level
+abbrev pub context_given : Option Word → Option Context
+context_given None = Some Top
+context_given (Some text) = context_of text
+
+abbrev pub which_of : NameAndValue → Option Asked
+which_of named = option_map (which named.name) (context_given named.value)
+
+abbrev pub verify_of : NameAndValue → Asked
+verify_of named = verify named.name named.value
 
 -- what a built command is asked; None where its words break the rules, or the command is no built one
 abbrev pub built_words : Word → List Word → Option Asked
 built_words command rest =
-    if bytes_eq command (codes "which") then option_map which (option_and_then one_name (pieces None None false rest))
+    if bytes_eq command (codes "which") then option_and_then which_of (option_and_then name_and_value (pieces (Some (codes "--from")) None false rest))
     else if bytes_eq command (codes "offers") then option_map offers (option_and_then one_name (pieces None None false rest))
     else if bytes_eq command (codes "status") then option_map status (option_and_then one_flag (pieces None (Some (codes "--all")) false rest))
-    else if bytes_eq command (codes "verify") then option_and_then name_and_value (pieces (Some (codes "--exec")) None false rest)
+    else if bytes_eq command (codes "verify") then option_map verify_of (option_and_then name_and_value (pieces (Some (codes "--exec")) None false rest))
     else None
 
 -- the option itself, or it with a value behind `=`
@@ -82,8 +108,7 @@ is_option option word = bytes_eq word option || starts_with (λ a b. a == b) wor
 -- an option of a command that is not built
 abbrev pub unbuilt_option : Word → Word → Option Word
 unbuilt_option command word =
-    if bytes_eq command (codes "which") && is_option (codes "--from") word then Some (codes "--from")
-    else if bytes_eq command (codes "which") && is_option (codes "--ext") word then Some (codes "--ext")
+    if bytes_eq command (codes "which") && is_option (codes "--ext") word then Some (codes "--ext")
     else if bytes_eq command (codes "status") && is_option (codes "--extensions") word then Some (codes "--extensions")
     else None
 

@@ -19,7 +19,7 @@ use std::alloc::Global;
 /// one piece; at every other status one line goes to `err`, and `out` gets nothing (a prefix at SinkFault).
 ///
 /// Where the store tells its files, status and text are those that the definitions give for them, by the command: `which`
-/// answers the import of a name from the top level over the active project (Julia manual, Code Loading), `status` tells
+/// answers the import of a name from a context over the environments of the load path (Julia manual, Code Loading), `status` tells
 /// the stanzas of its dependencies, `offers` the versions that registries list under a name, and `verify` whether an
 /// installed tree is the manifest's (Git's object format). No file is replaced.
 /// ReadFault and SinkFault come only where the store's and the sink's counts of faults rose, and want of memory is free.
@@ -32,7 +32,7 @@ pub fn run<S: Store, O: Sink, E: Sink>(
     err: &mut E,
 ) -> Ended
     ensures due { IfSome (S.files store.old) (λ all. Prints (answer_due all place.now (texts words.now)) (O.text out.old) (O.text out.new) result.status) }
-    ensures timely { IsTimely (early_due place.now (texts words.now)) result.status }
+    ensures timely { IsTimely (early_due (texts words.now)) result.status }
     ensures quiet { PrintsOnlyAtOk (O.text out.old) (O.text out.new) result.status }
     ensures told { Tells (E.text err.old) (E.text err.new) (E.faults err.old) (E.faults err.new) result.status result.told }
     ensures read_fault { ReadFaultRose (S.read_faults store.old) (S.read_faults store.new) result.status }
@@ -57,15 +57,15 @@ fn answer<S: Store>(
     store: &mut S,
 ) -> Result<String, Status>
     ensures answer { IfSome (S.files store.old) (λ all. Answers (answer_due all place.now (texts words.now)) result) }
-    ensures timely { AnswersTimely (early_due place.now (texts words.now)) result }
+    ensures timely { AnswersTimely (early_due (texts words.now)) result }
     ensures fault { IfErr result (ReadFaultRose (S.read_faults store.old) (S.read_faults store.new)) }
     ensures unprinted { IfErr result IsUnprinted }
     ensures files { S.files store.new ≡ S.files store.old }
     ensures later { S.read_faults store.old ≤ S.read_faults store.new }
     ensures other { S.write_faults store.new ≡ S.write_faults store.old }
 {
-    match asked_for(alloc, words, place) {
-        Ok(Asked::Which(name)) => which(alloc, &name, place, store),
+    match asked_for(alloc, words) {
+        Ok(Asked::Which(name, context)) => which(alloc, &name, &context, place, store),
         Ok(Asked::Offers(name)) => offers(alloc, &name, place, store),
         Ok(Asked::Status(all)) => status_lines(alloc, all, place, store),
         Ok(Asked::Verify(name, list)) => verify(alloc, &name, &list, place, store),

@@ -1,27 +1,27 @@
-//! `which`: the identity and the entry file of a name over the active project.
-ghost use Rattle.std.specs.Prelude.{◌≡◌, ◌≤◌, ℕ, List, Err, Some, IfSome, IfOk, IfErr, string_bytes};
-ghost use Rattle.env_maps.specs.Active.{active_file};
-ghost use Rattle.env_maps.specs.Maps.{path_of, env_in};
-ghost use Rattle.pkg_top.specs.Import.{by_path, by_identity, import as import_meant};
+//! `which`: the identity and the entry file of a name from a context.
+ghost use Rattle.std.specs.Prelude.{◌≡◌, ◌≤◌, ℕ, List, Err, true, IfSome, IfOk, IfErr, string_bytes};
+ghost use Rattle.env_maps.specs.ByName.{is_among};
+ghost use Rattle.import_lookup.specs.Loading.{import_in, serves};
 ghost use Rattle.pkg_top.specs.Due.{which_due, which_of, told_import};
 ghost use Rattle.pkg_top.specs.Lines.{found_line as line_of_found};
 ghost use Rattle.pkg_top.specs.Answers.{Answers, Refuses, ReadFaultRose, NoFault, IsLate, IsUnprinted};
 
-use crate::early::not_built_late;
 use crate::status::{Status, found_line};
-use env_maps::{Context, EnvFault, Id, ProjectEnv, active_project};
-use pkg_world::{Duplicate, KindAnswer, Name, NormPath, Place, Store};
+use env_maps::{Context, EnvFault, Id};
+use import_lookup::{ImportAnswer, Stack, import, names_of};
+use pkg_world::{Duplicate, Name, Names, NormPath, Place, Store};
 use std::alloc::Global;
 
-/// The line of `which`, or its refusal: the import of a name from the top level over the active project alone.
+/// The line of `which`, or its refusal: the import of a name from a context over the environments of the load path.
 /// (Julia manual, Code Loading.)
 pub(crate) fn which<S: Store>(
     alloc: Global,
     name: &Name,
+    context: &Context,
     place: &Place,
     store: &mut S,
 ) -> Result<String, Status>
-    ensures answer { IfSome (S.files store.old) (λ all. Answers (which_due all place.now name.now) result) }
+    ensures answer { IfSome (S.files store.old) (λ all. Answers (which_due all place.now context.now name.now) result) }
     ensures late { IfErr result IsLate }
     ensures unprinted { IfErr result IsUnprinted }
     ensures fault { IfErr result (ReadFaultRose (S.read_faults store.old) (S.read_faults store.new)) }
@@ -29,22 +29,24 @@ pub(crate) fn which<S: Store>(
     ensures later { S.read_faults store.old ≤ S.read_faults store.new }
     ensures other { S.write_faults store.new ≡ S.write_faults store.old }
 {
-    match active_project(alloc, store, place) {
-        Ok(file) => which_in(alloc, name, place, &file, store),
-        Err(EnvFault::ReadFault(path)) => Err(Status::ReadFault(path)),
-        Err(EnvFault::BadFile(..)) => unreachable!(),
-        Err(EnvFault::Memory) => Err(Status::Memory),
+    match names_of(alloc, context, name) {
+        Ok(names) => which_over(alloc, name, context, place, &names, store),
+        Err(_) => Err(Status::Memory),
     }
 }
 
-fn which_in<S: Store>(
+/// The same over the stack that is loaded with these names.
+fn which_over<S: Store>(
     alloc: Global,
     name: &Name,
+    context: &Context,
     place: &Place,
-    file: &NormPath,
+    names: &Names,
     store: &mut S,
 ) -> Result<String, Status>
-    ensures answer { IfSome (S.files store.old) (λ all. Answers (which_of all name.now (env_in all place.now file.now)) result) }
+    requires serves { serves names.now.items context.now ≡ true }
+    requires among { is_among name.now names.now.items ≡ true }
+    ensures answer { IfSome (S.files store.old) (λ all. Answers (which_of name.now (import_in all place.now names.now.items context.now name.now)) result) }
     ensures late { IfErr result IsLate }
     ensures unprinted { IfErr result IsUnprinted }
     ensures fault { IfErr result (ReadFaultRose (S.read_faults store.old) (S.read_faults store.new)) }
@@ -52,33 +54,30 @@ fn which_in<S: Store>(
     ensures later { S.read_faults store.old ≤ S.read_faults store.new }
     ensures other { S.write_faults store.new ≡ S.write_faults store.old }
 {
-    match ProjectEnv::load(alloc, store, place, file) {
-        Ok(env) => import(alloc, name, &env, store),
+    match Stack::load(alloc, store, place, names) {
+        Ok(stack) => match import(alloc, &stack, store, context, name) {
+            Ok(answer) => told(alloc, name, answer),
+            Err(EnvFault::ReadFault(path)) => Err(Status::ReadFault(path)),
+            Err(EnvFault::BadFile(..)) => unreachable!(),
+            Err(EnvFault::Memory) => Err(Status::Memory),
+        },
         Err(EnvFault::ReadFault(path)) => Err(Status::ReadFault(path)),
         Err(EnvFault::BadFile(path, cause)) => Err(Status::BadFile(path, cause)),
         Err(EnvFault::Memory) => Err(Status::Memory),
     }
 }
 
-/// The import of a name from the top level.
-fn import<S: Store>(
-    alloc: Global,
-    name: &Name,
-    env: &ProjectEnv,
-    store: &mut S,
-) -> Result<String, Status>
-    ensures answer { IfSome (S.files store.old) (λ all. Answers (told_import name.now (import_meant all env.now name.now)) result) }
+/// The line of an import's answer, or the refusal.
+fn told(alloc: Global, name: &Name, answer: ImportAnswer) -> Result<String, Status>
+    ensures answer { Answers (told_import name.now answer) result }
     ensures late { IfErr result IsLate }
     ensures unprinted { IfErr result IsUnprinted }
-    ensures fault { IfErr result (ReadFaultRose (S.read_faults store.old) (S.read_faults store.new)) }
-    ensures files { S.files store.new ≡ S.files store.old }
-    ensures later { S.read_faults store.old ≤ S.read_faults store.new }
-    ensures other { S.write_faults store.new ≡ S.write_faults store.old }
+    ensures fault { IfErr result NoFault }
 {
-    match env.root(alloc, name) {
-        Ok(Some(id)) => import_built(alloc, name, env, &id, store),
-        Ok(None) => Err(no_identity(alloc, name)),
-        Err(_) => Err(Status::Memory),
+    match answer {
+        ImportAnswer::Found(id, path) => found(alloc, &id, &path),
+        ImportAnswer::NoIdentity => Err(no_identity(alloc, name)),
+        ImportAnswer::NoSource(id) => Err(Status::NoSource(id.uuid)),
     }
 }
 
@@ -94,78 +93,7 @@ fn no_identity(alloc: Global, name: &Name) -> Status
     }
 }
 
-/// The import of an identity, where its stanza has a form whose entry is read.
-fn import_built<S: Store>(
-    alloc: Global,
-    name: &Name,
-    env: &ProjectEnv,
-    id: &Id,
-    store: &mut S,
-) -> Result<String, Status>
-    ensures answer { IfSome (S.files store.old) (λ all. Answers (told_import name.now (by_identity all env.now (Some id.now))) result) }
-    ensures late { IfErr result IsLate }
-    ensures unprinted { IfErr result IsUnprinted }
-    ensures fault { IfErr result (ReadFaultRose (S.read_faults store.old) (S.read_faults store.new)) }
-    ensures files { S.files store.new ≡ S.files store.old }
-    ensures later { S.read_faults store.old ≤ S.read_faults store.new }
-    ensures other { S.write_faults store.new ≡ S.write_faults store.old }
-{
-    if env.is_unbuilt(id) {
-        Err(not_built_late(alloc, "stanza"))
-    } else {
-        import_identity(alloc, name, env, id, store)
-    }
-}
-
-fn import_identity<S: Store>(
-    alloc: Global,
-    name: &Name,
-    env: &ProjectEnv,
-    id: &Id,
-    store: &mut S,
-) -> Result<String, Status>
-    ensures answer { IfSome (S.files store.old) (λ all. Answers (told_import name.now (by_path all id.now (path_of all env.now id.now))) result) }
-    ensures late { IfErr result IsLate }
-    ensures unprinted { IfErr result IsUnprinted }
-    ensures fault { IfErr result (ReadFaultRose (S.read_faults store.old) (S.read_faults store.new)) }
-    ensures files { S.files store.new ≡ S.files store.old }
-    ensures later { S.read_faults store.old ≤ S.read_faults store.new }
-    ensures other { S.write_faults store.new ≡ S.write_faults store.old }
-{
-    match env.entry(alloc, store, &Context::Top, id) {
-        Ok(Some(path)) => import_path(alloc, name, id, path, store),
-        Ok(None) => Err(Status::NoSource(id.uuid)),
-        Err(EnvFault::ReadFault(path)) => Err(Status::ReadFault(path)),
-        Err(EnvFault::BadFile(..)) => unreachable!(),
-        Err(EnvFault::Memory) => Err(Status::Memory),
-    }
-}
-
-fn import_path<S: Store>(
-    alloc: Global,
-    name: &Name,
-    id: &Id,
-    path: NormPath,
-    store: &mut S,
-) -> Result<String, Status>
-    ensures answer { IfSome (S.files store.old) (λ all. Answers (told_import name.now (by_path all id.now (Some path))) result) }
-    ensures late { IfErr result IsLate }
-    ensures unprinted { IfErr result IsUnprinted }
-    ensures fault { IfErr result (ReadFaultRose (S.read_faults store.old) (S.read_faults store.new)) }
-    ensures files { S.files store.new ≡ S.files store.old }
-    ensures later { S.read_faults store.old ≤ S.read_faults store.new }
-    ensures other { S.write_faults store.new ≡ S.write_faults store.old }
-{
-    match store.kind(alloc, &path) {
-        KindAnswer::File => told(alloc, id, &path),
-        KindAnswer::Folder => Err(Status::NoSource(id.uuid)),
-        KindAnswer::Missing => Err(Status::NoSource(id.uuid)),
-        KindAnswer::Failed => Err(Status::ReadFault(path)),
-        KindAnswer::Memory => Err(Status::Memory),
-    }
-}
-
-fn told(alloc: Global, id: &Id, path: &NormPath) -> Result<String, Status>
+fn found(alloc: Global, id: &Id, path: &NormPath) -> Result<String, Status>
     ensures line { IfOk result (λ line. string_bytes line ≡ line_of_found id.now path.now) }
     ensures memory { IfErr result (λ status. status ≡ Status.Memory) }
 {

@@ -1,5 +1,5 @@
 //! What the words of a command mean.
-ghost use Rattle.std.specs.Prelude.{◌≡◌, ◌==◌, ◌||◌, not, false, None, codes, IfOk, ◌∷◌, option_map};
+ghost use Rattle.std.specs.Prelude.{◌≡◌, ◌==◌, ◌||◌, not, if◌then◌else◌, false, None, codes, IfOk, ◌∷◌, option_map};
 ghost use Rattle.std.specs.List.{list_all, list_any};
 ghost use Rattle.std.specs.Option.{option_copied, option_and_then};
 ghost use Rattle.std.specs.Str.{bytes_eq};
@@ -9,14 +9,16 @@ ghost use Rattle.pkg_top.specs.declared.pieces.Piece.TheVariants.{Operand};
 ghost use Rattle.pkg_top.specs.Seen.{asked_of, texts};
 
 use crate::pieces::{Piece, read_pieces};
+use env_maps::{Context, Id};
 use pkg_world::{Duplicate, Name, Text};
 use std::alloc::{AllocError, Global};
+use uuid::Uuid;
 
 /// What words ask for.
 #[derive(Debug, Drop)]
 pub(crate) enum Asked {
-    /// `which` of a name.
-    Which(Name),
+    /// `which` of a name from a context.
+    Which(Name, Context),
     /// `offers` of a name.
     Offers(Name),
     /// `status`, of every stanza or of the dependencies alone.
@@ -27,6 +29,13 @@ pub(crate) enum Asked {
     BadWords(Text),
     /// A command or an option that this version does not have yet.
     NotBuilt(Text),
+}
+
+/// A name, with the value of the command's option where it is given.
+#[derive(Debug, Drop)]
+struct NameAndValue {
+    name: Name,
+    value: Option<Text>,
 }
 
 /// What the words ask for.
@@ -89,21 +98,13 @@ fn first_unbuilt(command: &str, words: &[String]) -> Option<&'static str>
 fn unbuilt_option(command: &str, word: &str) -> Option<&'static str>
     ensures { option_copied result ≡ spec.unbuilt_option command.now word.now }
 {
-    if command == "which" && is_from(word) {
-        Some("--from")
-    } else if command == "which" && is_ext(word) {
+    if command == "which" && is_ext(word) {
         Some("--ext")
     } else if command == "status" && is_extensions(word) {
         Some("--extensions")
     } else {
         None
     }
-}
-
-fn is_from(word: &str) -> bool
-    ensures { result ≡ spec.is_option (codes "--from") word.now }
-{
-    word == "--from" || word.as_bytes().starts_with(b"--from=")
 }
 
 fn is_ext(word: &str) -> bool
@@ -140,9 +141,64 @@ fn built_words(alloc: Global, command: &str, rest: &[String]) -> Result<Option<A
 fn which_words(alloc: Global, rest: &[String]) -> Result<Option<Asked>, AllocError>
     ensures { IfOk result (λ asked. option_map asked_of asked ≡ spec.built_words (codes "which") (texts rest.now)) }
 {
-    match only_name(alloc, rest)? {
-        Some(name) => Ok(Some(Asked::Which(name))),
+    match named_words(alloc, "--from", rest)? {
+        Some(named) => which_of(alloc, named),
         None => Ok(None),
+    }
+}
+
+/// `which` of a name from the context that is given, else from the top level.
+fn which_of(alloc: Global, named: NameAndValue) -> Result<Option<Asked>, AllocError>
+    ensures { IfOk result (λ asked. option_map asked_of asked ≡ spec.which_of named) }
+{
+    let NameAndValue { name, value } = named;
+    match context_given(alloc, &value)? {
+        Some(context) => Ok(Some(Asked::Which(name, context))),
+        None => Ok(None),
+    }
+}
+
+fn context_given(alloc: Global, value: &Option<Text>) -> Result<Option<Context>, AllocError>
+    ensures { IfOk result (λ context. context ≡ spec.context_given value.now) }
+{
+    match value {
+        Some(text) => context_of(alloc, text.as_str()),
+        None => Ok(Some(Context::Top)),
+    }
+}
+
+/// A context: `NAME`, a package without identifier, or `NAME=UUID`.
+fn context_of(alloc: Global, text: &str) -> Result<Option<Context>, AllocError>
+    ensures { IfOk result (λ context. context ≡ spec.context_of text.now) }
+{
+    match text.split_once('=') {
+        Some((name, uuid)) => package_of(alloc, name, uuid),
+        None => bare_package(alloc, text),
+    }
+}
+
+fn bare_package(alloc: Global, name: &str) -> Result<Option<Context>, AllocError>
+    ensures { IfOk result (λ context. context ≡ (if spec.is_name name.now then Some (Context.Package (record { uuid = None; name = name.now })) else None)) }
+{
+    if !is_name(name) {
+        return Ok(None);
+    }
+    let name = Name::of(alloc, name)?;
+    Ok(Some(Context::Package(Id { uuid: None, name })))
+}
+
+fn package_of(alloc: Global, name: &str, text: &str) -> Result<Option<Context>, AllocError>
+    ensures { IfOk result (λ context. context ≡ spec.package_of name.now text.now) }
+{
+    if !is_name(name) {
+        return Ok(None);
+    }
+    match Uuid::parse_str(text) {
+        Ok(uuid) => Ok(Some(Context::Package(Id {
+            uuid: Some(uuid),
+            name: Name::of(alloc, name)?,
+        }))),
+        Err(_) => Ok(None),
     }
 }
 
@@ -167,8 +223,25 @@ fn status_words(alloc: Global, rest: &[String]) -> Result<Option<Asked>, AllocEr
 fn verify_words(alloc: Global, rest: &[String]) -> Result<Option<Asked>, AllocError>
     ensures { IfOk result (λ asked. option_map asked_of asked ≡ spec.built_words (codes "verify") (texts rest.now)) }
 {
-    match read_pieces(alloc, Some("--exec"), None, rest)? {
-        Some(found) => verify_asked(alloc, found.as_slice()),
+    match named_words(alloc, "--exec", rest)? {
+        Some(named) => {
+            let NameAndValue { name, value } = named;
+            Ok(Some(Asked::Verify(name, value)))
+        }
+        None => Ok(None),
+    }
+}
+
+/// Exactly one name, and the value of that option, at most once.
+fn named_words(
+    alloc: Global,
+    option: &str,
+    rest: &[String],
+) -> Result<Option<NameAndValue>, AllocError>
+    ensures { IfOk result (λ named. named ≡ option_and_then spec.name_and_value (pieces_meant (Some option.now) None false (texts rest.now))) }
+{
+    match read_pieces(alloc, Some(option), None, rest)? {
+        Some(found) => name_and_value(alloc, found.as_slice()),
         None => Ok(None),
     }
 }
@@ -204,8 +277,8 @@ fn status_asked(found: &[Piece]) -> Option<Asked>
 }
 
 /// Exactly one name, and before or behind it the value, at most once.
-fn verify_asked(alloc: Global, found: &[Piece]) -> Result<Option<Asked>, AllocError>
-    ensures { IfOk result (λ asked. option_map asked_of asked ≡ spec.name_and_value found.now) }
+fn name_and_value(alloc: Global, found: &[Piece]) -> Result<Option<NameAndValue>, AllocError>
+    ensures { IfOk result (λ named. named ≡ spec.name_and_value found.now) }
 {
     match found {
         [piece] => name_alone(alloc, piece),
@@ -214,11 +287,11 @@ fn verify_asked(alloc: Global, found: &[Piece]) -> Result<Option<Asked>, AllocEr
     }
 }
 
-fn name_alone(alloc: Global, piece: &Piece) -> Result<Option<Asked>, AllocError>
-    ensures { IfOk result (λ asked. option_map asked_of asked ≡ option_map (λ name. spec.verify name None) (spec.name_of piece.now)) }
+fn name_alone(alloc: Global, piece: &Piece) -> Result<Option<NameAndValue>, AllocError>
+    ensures { IfOk result (λ named. named ≡ option_map (λ name. record { name = name; value = None }) (spec.name_of piece.now)) }
 {
     match name_of(alloc, piece)? {
-        Some(name) => Ok(Some(Asked::Verify(name, None))),
+        Some(name) => Ok(Some(NameAndValue { name, value: None })),
         None => Ok(None),
     }
 }
@@ -227,23 +300,33 @@ fn in_either_order(
     alloc: Global,
     first: &Piece,
     second: &Piece,
-) -> Result<Option<Asked>, AllocError>
-    ensures { IfOk result (λ asked. option_map asked_of asked ≡ spec.or_asked (spec.name_with first.now second.now) (spec.name_with second.now first.now)) }
+) -> Result<Option<NameAndValue>, AllocError>
+    ensures { IfOk result (λ named. named ≡ spec.or_other (spec.name_with first.now second.now) (spec.name_with second.now first.now)) }
 {
     match name_with(alloc, first, second)? {
-        Some(asked) => Ok(Some(asked)),
+        Some(named) => Ok(Some(named)),
         None => name_with(alloc, second, first),
     }
 }
 
-fn name_with(alloc: Global, named: &Piece, valued: &Piece) -> Result<Option<Asked>, AllocError>
-    ensures { IfOk result (λ asked. option_map asked_of asked ≡ spec.name_with named.now valued.now) }
+fn name_with(
+    alloc: Global,
+    named: &Piece,
+    valued: &Piece,
+) -> Result<Option<NameAndValue>, AllocError>
+    ensures { IfOk result (λ found. found ≡ spec.name_with named.now valued.now) }
 {
     let Some(name) = name_of(alloc, named)? else {
         return Ok(None);
     };
     match valued {
-        Piece::Value(value) => Ok(Some(Asked::Verify(name, Some(value.copy(alloc)?)))),
+        Piece::Value(value) => {
+            let value = value.copy(alloc)?;
+            Ok(Some(NameAndValue {
+                name,
+                value: Some(value),
+            }))
+        }
         Piece::Flag => Ok(None),
         Piece::Operand(_) => Ok(None),
     }

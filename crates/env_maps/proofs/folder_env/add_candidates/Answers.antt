@@ -1,0 +1,21 @@
+use Rattle.std.proofs.Common.{◌∙◌, arith}
+use Rattle.env_maps.specs.ByName.{with_name}
+use Rattle.env_maps.specs.Candidates.{candidate_read}
+use Rattle.env_maps.proofs.Each.{rest-step, each-next, each-stops}
+use Rattle.env_maps.proofs.folder_env.add_candidates.Goals as goal
+
+pub names-preserved : goal.names-preserved
+names-preserved g c =
+    let (same, later, other, comes) = c.names.invariant in
+    let next = rest-step c.args.names.now c.names.name-index c.name-item.result c.names-test.true c.name-item.is in (
+      c.add_candidate.ensures.files ∙ same,
+      omega (arith, later, c.add_candidate.ensures.later),
+      c.add_candidate.ensures.other ∙ other,
+      each-next _ (λ all. with_name (candidate_read all c.args.folder.now)) c.name-item.result c.args.names.now _ _ _ _ _ next comes (rw same at c.in-Ok.ensures.told),
+    )
+
+pub returns-in-Err-clause-told : goal.returns-in-Err-clause-told
+returns-in-Err-clause-told g c =
+    let (same, later, other, comes) = c.names.invariant in
+    let next = rest-step c.args.names.now c.names.name-index c.name-item.result c.names-test.true c.name-item.is in
+    each-stops _ (λ all. with_name (candidate_read all c.args.folder.now)) c.name-item.result c.args.names.now _ _ _ _ c.in-Err.fault next comes (rw same at c.in-Err.ensures.told)

@@ -1,0 +1,32 @@
+-- What was read for some names, and is found again by its name.
+use Rattle.std.specs.Prelude.{ℕ, Bool, false, ◌||◌, if◌then◌else◌, List, [], ◌∷◌, Option, Some, None, Result, Ok, Err}
+use Rattle.std.specs.Option.{option_and_then}
+use Rattle.std.specs.Str.{bytes_eq}
+use Rattle.env_maps.specs.Files.{Read, then_file}
+use Rattle.env_maps.specs.Each.{read_each}
+
+-- what a reading gives for a name, beside the name
+abbrev pub with_name : {T : Type 0} → (List ℕ → Read T) → List ℕ → Read (List (List ℕ × T))
+with_name read name = then_file (read name) (λ value. Ok ((name, value) ∷ []))
+
+-- what a reading gives for each of these names
+abbrev pub by_name : {T : Type 0} → (List ℕ → Read T) → List (List ℕ) → Read (List (List ℕ × T))
+by_name read names = read_each (with_name read) names
+
+-- what stands first under a name
+abbrev pub found_at : {T : Type 0} → List ℕ → List (List ℕ × T) → Option T
+found_at name [] = None
+found_at name ((key, value) ∷ more) = if bytes_eq key name then Some value else found_at name more
+
+-- the same of a reading that may find nothing
+abbrev pub found_in : {T : Type 0} → List (List ℕ × Option T) → List ℕ → Option T
+found_in found name = option_and_then (λ value. value) (found_at name found)
+
+-- what a reading finds; nothing where its file is refused
+abbrev pub given : {T : Type 0} → Read (Option T) → Option T
+given (Ok value) = value
+given (Err refused) = None
+
+abbrev pub is_among : List ℕ → List (List ℕ) → Bool
+is_among name [] = false
+is_among name (key ∷ more) = bytes_eq key name || is_among name more

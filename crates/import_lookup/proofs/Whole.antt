@@ -1,0 +1,62 @@
+-- What the reading of a stack says of imports over the files.
+use Rattle.std.proofs.Common.{◌≡◌, ℕ, true, List, Option, Some, None, IfSome, Ok, Err, Result, refl, sym, ap, ◌∙◌}
+use Rattle.pkg_world.specs.declared.place.Place.{Place}
+use Rattle.pkg_world.specs.Tree.{Files}
+use Rattle.env_maps.specs.declared.id.Context.{Context}
+use Rattle.env_maps.specs.declared.fault.EnvFault.{EnvFault}
+use Rattle.env_maps.specs.declared.fault.EnvFault.TheVariants.{ReadFault, BadFile, Memory}
+use Rattle.env_maps.specs.ByName.{is_among}
+use Rattle.env_maps.specs.Files.{Read, then_file, Refuses}
+use Rattle.env_maps.specs.Library.{library_in}
+use Rattle.import_lookup.specs.declared.answer.ImportAnswer.{ImportAnswer}
+use Rattle.import_lookup.specs.declared.loaded.Environment.{Environment}
+use Rattle.import_lookup.specs.declared.loaded.Loaded.{Loaded}
+use Rattle.import_lookup.specs.Import.{import_over, maps_of}
+use Rattle.import_lookup.specs.LoadPath.{environments}
+use Rattle.import_lookup.specs.Loading.{all_loaded, loaded_maps, Held, with_library, held_of, stack_in, answered, import_in, serves}
+use Rattle.import_lookup.proofs.Agreement.{import_same}
+
+-- a stack that is refused refuses every import
+refused_by : {S T : Type 0} (reading : Read S) (refused : _) (next : S → Read T) → reading ≡ Err refused → then_file reading next ≡ Err refused
+refused_by reading refused next e = rw e refl
+
+held_refused : (files : Files) (place : Place) (names : List (List ℕ)) (context : Context) (name : List ℕ) (found : Read (List Environment)) (held : List Environment → Read Held) (fault : EnvFault)
+    → ((envs : List Environment) → answered files place names context name envs ≡ then_file (held envs) (λ stack. Ok (import_over files (maps_of files place.stdlib) envs context name)))
+    → Refuses (then_file found held) fault → Refuses (then_file found (answered files place names context name)) fault
+held_refused files place names context name found held (ReadFault path) is h = tt
+held_refused files place names context name (Ok envs) held (BadFile path cause) is h = is envs ∙ rw h refl
+held_refused files place names context name (Err refused) held (BadFile path cause) is h = h
+held_refused files place names context name found held Memory is h = tt
+
+pub stack_refused : (files : Files) (place : Place) (names : List (List ℕ)) (context : Context) (name : List ℕ) (fault : EnvFault)
+    → Refuses (stack_in files place names) fault → Refuses (import_in files place names context name) fault
+stack_refused files place names context name fault h = held_refused files place names context name (environments files place) (held_of files place names) fault (λ envs. refl) h
+
+-- an import over a stack that was loaded
+record IsHeld (files : Files) (place : Place) (names : List (List ℕ)) (envs : List Environment) (held : Held) : Type 0 where
+  pub loaded : all_loaded files names envs ≡ Ok held.envs
+  pub library : library_in files place.stdlib names ≡ Ok held.library
+
+held_by : (files : Files) (place : Place) (names : List (List ℕ)) (envs : List Environment) (held : Held) (one : Read (List Loaded)) (two : Read (List (List ℕ × Option (List ℕ))))
+    → all_loaded files names envs ≡ one → library_in files place.stdlib names ≡ two
+    → then_file one (λ loaded. then_file two (λ library. Ok (record { envs = loaded; library = library }))) ≡ Ok held → IsHeld files place names envs held
+held_by files place names envs held (Ok loaded) (Ok library) e f h =
+    let same : record { envs = loaded; library = library } ≡ held = cc in
+    record { loaded = e ∙ ap Ok (ap (λ s. s.envs) same); library = f ∙ ap Ok (ap (λ s. s.library) same) }
+held_by files place names envs held (Ok loaded) (Err refused) e f h = let no-way : ⊥ = cc in absurd no-way
+held_by files place names envs held (Err refused) two e f h = let no-way : ⊥ = cc in absurd no-way
+
+whole_by : (files : Files) (place : Place) (names : List (List ℕ)) (context : Context) (name : List ℕ) (held : Held) (found : Read (List Environment))
+    → serves names context ≡ true → is_among name names ≡ true → then_file found (held_of files place names) ≡ Ok held
+    → then_file found (answered files place names context name) ≡ Ok (import_over files (loaded_maps files held.library) held.envs context name)
+whole_by files place names context name held (Ok envs) served among h =
+    let is = held_by files place names envs held (all_loaded files names envs) (library_in files place.stdlib names) refl refl h in
+    ap (λ reading. then_file reading (λ stack. Ok (import_over files (maps_of files place.stdlib) envs context name))) h
+    ∙ ap Ok (import_same files place.stdlib names held.library envs held.envs context name is.loaded is.library served among)
+whole_by files place names context name held (Err refused) served among h = let no-way : ⊥ = cc in absurd no-way
+
+pub import_whole : (files : Files) (place : Place) (names : List (List ℕ)) (context : Context) (name : List ℕ) (held : Held) (answer : ImportAnswer)
+    → answer ≡ import_over files (loaded_maps files held.library) held.envs context name → stack_in files place names ≡ Ok held
+    → serves names context ≡ true → is_among name names ≡ true → import_in files place names context name ≡ Ok answer
+import_whole files place names context name held answer is h served among =
+    whole_by files place names context name held (environments files place) served among h ∙ ap Ok (sym is)

@@ -1,0 +1,70 @@
+-- What a stack reads: the files of its environments, and then, for some names, those of package folders and of standard
+-- libraries. All are read, needed or not.
+use Rattle.std.specs.Prelude.{◌≡◌, ℕ, Bool, true, false, ◌&&◌, if◌then◌else◌, List, [], ◌∷◌, Option, Some, None, Ok}
+use Rattle.std.specs.Str.{bytes_eq}
+use Rattle.pkg_world.specs.declared.place.Place.{Place}
+use Rattle.pkg_world.specs.Path.{Path}
+use Rattle.pkg_world.specs.Tree.{Files}
+use Rattle.env_maps.specs.declared.id.Context.{Context}
+use Rattle.env_maps.specs.declared.id.Context.TheVariants.{Top, Package}
+use Rattle.env_maps.specs.ByName.{found_in, is_among}
+use Rattle.env_maps.specs.Candidates.{candidates_in}
+use Rattle.env_maps.specs.Each.{read_each}
+use Rattle.env_maps.specs.Files.{Read, then_file}
+use Rattle.env_maps.specs.Library.{library_in}
+use Rattle.env_maps.specs.ThreeMaps.{Maps, project_maps, folder_maps}
+use Rattle.import_lookup.specs.declared.answer.ImportAnswer.{ImportAnswer}
+use Rattle.import_lookup.specs.declared.loaded.Environment.{Environment}
+use Rattle.import_lookup.specs.declared.loaded.Environment.TheVariants as kinds
+use Rattle.import_lookup.specs.declared.loaded.Loaded.{Loaded}
+use Rattle.import_lookup.specs.declared.loaded.Loaded.TheVariants.{Project, Folder}
+use Rattle.import_lookup.specs.Import.{import_over, maps_of}
+use Rattle.import_lookup.specs.LoadPath.{environments}
+
+-- an environment as it is kept for these names
+abbrev pub loaded_of : Files → List (List ℕ) → Environment → Read (List Loaded)
+loaded_of files names (kinds.Project env) = Ok (Project env ∷ [])
+loaded_of files names (kinds.Folder folder) = then_file (candidates_in files folder names) (λ found. Ok (Folder found ∷ []))
+
+abbrev pub all_loaded : Files → List (List ℕ) → List Environment → Read (List Loaded)
+all_loaded files names envs = read_each (loaded_of files names) envs
+
+-- a stack: its environments, and the standard libraries, of the names with which it was loaded
+pub record Held : Type 0 where
+  pub envs : List Loaded
+  pub library : List (List ℕ × Option (List ℕ))
+
+abbrev pub with_library : Files → Place → List (List ℕ) → List Loaded → Read Held
+with_library files place names loaded = then_file (library_in files place.stdlib names) (λ library. Ok (record { envs = loaded; library = library }))
+
+abbrev pub held_of : Files → Place → List (List ℕ) → List Environment → Read Held
+held_of files place names envs = then_file (all_loaded files names envs) (with_library files place names)
+
+-- the stack of a place, for these names: first the project files and manifests, then package folders, then standard
+-- libraries
+abbrev pub stack_in : Files → Place → List (List ℕ) → Read Held
+stack_in files place names = then_file (environments files place) (held_of files place names)
+
+-- the maps of an environment that was loaded
+abbrev pub loaded_maps : Files → List (List ℕ × Option (List ℕ)) → Loaded → Maps
+loaded_maps files library (Project env) = project_maps files (found_in library) env
+loaded_maps files library (Folder found) = folder_maps (found_in found)
+
+-- whether a stack that was loaded with these names serves a context
+abbrev pub serves : List (List ℕ) → Context → Bool
+serves names Top = true
+serves names (Package id) = is_among id.name names
+
+abbrev pub answered : Files → Place → List (List ℕ) → Context → List ℕ → List Environment → Read ImportAnswer
+answered files place names context name envs =
+    then_file (held_of files place names envs) (λ held. Ok (import_over files (maps_of files place.stdlib) envs context name))
+
+-- the answer of an import over the environments of the load path and over all names, or the first file that is refused of
+-- those that are read for these names
+abbrev pub import_in : Files → Place → List (List ℕ) → Context → List ℕ → Read ImportAnswer
+import_in files place names context name = then_file (environments files place) (answered files place names context name)
+
+-- the names for which the files are read: the context's and the imported one, once where they are the same
+abbrev pub names_of : Context → List ℕ → List (List ℕ)
+names_of Top name = name ∷ []
+names_of (Package id) name = if bytes_eq id.name name then name ∷ [] else id.name ∷ name ∷ []

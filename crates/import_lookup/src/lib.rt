@@ -1,0 +1,14 @@
+//! Imports: the stack of environments that a load path gives, and what a name means from a context.
+#![tactic(auto)]
+
+mod answer;
+mod import;
+mod load_path;
+mod loaded;
+mod names;
+mod stack;
+
+pub use answer::ImportAnswer;
+pub use import::import;
+pub use names::names_of;
+pub use stack::Stack;

@@ -1,0 +1,37 @@
+//! The names for which a stack is loaded.
+ghost use Rattle.std.specs.Prelude.{◌≡◌, ◌∷◌, [], IfOk};
+ghost use Rattle.import_lookup.specs.Loading as spec;
+
+use env_maps::{Context, Id};
+use pkg_world::{Duplicate, Listed, Name, Names};
+use std::alloc::{AllocError, Global};
+
+/// The names for which an import reads files: the context's and then the imported one, once where they are the same. The
+/// one error is want of memory.
+pub fn names_of(alloc: Global, context: &Context, name: &Name) -> Result<Names, AllocError>
+    ensures { IfOk result (λ names. names.items ≡ spec.names_of context.now name.now) }
+{
+    match context {
+        Context::Top => only(alloc, name),
+        Context::Package(id) => with_package(alloc, id, name),
+    }
+}
+
+fn with_package(alloc: Global, id: &Id, name: &Name) -> Result<Names, AllocError>
+    ensures { IfOk result (λ names. names.items ≡ spec.names_of (Context.Package id.now) name.now) }
+{
+    if id.name.as_str() == name.as_str() {
+        return only(alloc, name);
+    }
+    let mut names = only(alloc, &id.name)?;
+    names.push(name.copy(alloc)?)?;
+    Ok(names)
+}
+
+fn only(alloc: Global, name: &Name) -> Result<Names, AllocError>
+    ensures { IfOk result (λ names. names.items ≡ name.now ∷ []) }
+{
+    let mut names = Listed::make(alloc);
+    names.push(name.copy(alloc)?)?;
+    Ok(names)
+}
