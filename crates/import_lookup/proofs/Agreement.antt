@@ -113,7 +113,7 @@ folder_by : (files : Files) (folder : Path) (names : List (List ℕ)) (first : L
 folder_by files folder names first (Ok found) e h = record { found = found; read = e; alone = let same : Folder found ∷ [] ≡ first = cc in sym same }
 folder_by files folder names first (Err refused) e h = let no-way : ⊥ = cc in absurd no-way
 
--- one way of asking, of an environment's maps: the same before and after loading
+-- what is asked of an environment: the same before and after loading
 says_same : {T : Type 0} (files : Files) (stdlib : Option Path) (names : List (List ℕ)) (library : List (List ℕ × Option (List ℕ))) (ask : Maps → Option T)
     → ((env : Env) → ask (project_maps files (library_uuid files stdlib) env) ≡ ask (project_maps files (found_in library) env))
     → ((folder : Path) (found : List (List ℕ × Option Candidate)) → candidates_in files folder names ≡ Ok found → ask (folder_maps (candidate files folder)) ≡ ask (folder_maps (found_in found)))

@@ -1,12 +1,12 @@
 -- What the reading of a stack says of imports over the files.
-use Rattle.std.proofs.Common.{◌≡◌, ℕ, true, List, Option, Some, None, IfSome, Ok, Err, Result, refl, sym, ap, ◌∙◌}
+use Rattle.std.proofs.Common.{◌≡◌, ℕ, true, List, Option, Some, None, IfSome, IfOk, IfErr, Ok, Err, Result, refl, sym, ap, ◌∙◌}
 use Rattle.pkg_world.specs.declared.place.Place.{Place}
 use Rattle.pkg_world.specs.Tree.{Files}
 use Rattle.env_maps.specs.declared.id.Context.{Context}
 use Rattle.env_maps.specs.declared.fault.EnvFault.{EnvFault}
 use Rattle.env_maps.specs.declared.fault.EnvFault.TheVariants.{ReadFault, BadFile, Memory}
 use Rattle.env_maps.specs.ByName.{is_among}
-use Rattle.env_maps.specs.Files.{Read, then_file, Refuses}
+use Rattle.env_maps.specs.Files.{Read, then_file, Refuses, Loads}
 use Rattle.env_maps.specs.Library.{library_in}
 use Rattle.import_lookup.specs.declared.answer.ImportAnswer.{ImportAnswer}
 use Rattle.import_lookup.specs.declared.loaded.Environment.{Environment}
@@ -20,17 +20,16 @@ use Rattle.import_lookup.proofs.Agreement.{import_same}
 refused_by : {S T : Type 0} (reading : Read S) (refused : _) (next : S → Read T) → reading ≡ Err refused → then_file reading next ≡ Err refused
 refused_by reading refused next e = rw e refl
 
-held_refused : (files : Files) (place : Place) (names : List (List ℕ)) (context : Context) (name : List ℕ) (found : Read (List Environment)) (held : List Environment → Read Held) (fault : EnvFault)
-    → ((envs : List Environment) → answered files place names context name envs ≡ then_file (held envs) (λ stack. Ok (import_over files (maps_of files place.stdlib) envs context name)))
-    → Refuses (then_file found held) fault → Refuses (then_file found (answered files place names context name)) fault
-held_refused files place names context name found held (ReadFault path) is h = tt
-held_refused files place names context name (Ok envs) held (BadFile path cause) is h = is envs ∙ rw h refl
-held_refused files place names context name (Err refused) held (BadFile path cause) is h = h
-held_refused files place names context name found held Memory is h = tt
+by_envs : (files : Files) (place : Place) (names : List (List ℕ)) (context : Context) (name : List ℕ) (fault : EnvFault) (found : Read (List Environment))
+    → Refuses (then_file found (held_of files place names)) fault → Refuses (then_file found (answered files place names context name)) fault
+by_envs files place names context name (ReadFault path) found h = tt
+by_envs files place names context name (BadFile path cause) (Ok envs) h = refused_by (held_of files place names envs) (path, cause) (λ held. Ok (import_over files (maps_of files place.stdlib) envs context name)) h
+by_envs files place names context name (BadFile path cause) (Err refused) h = let same : refused ≡ (path, cause) = cc in ap Err same
+by_envs files place names context name Memory found h = tt
 
 pub stack_refused : (files : Files) (place : Place) (names : List (List ℕ)) (context : Context) (name : List ℕ) (fault : EnvFault)
     → Refuses (stack_in files place names) fault → Refuses (import_in files place names context name) fault
-stack_refused files place names context name fault h = held_refused files place names context name (environments files place) (held_of files place names) fault (λ envs. refl) h
+stack_refused files place names context name fault h = by_envs files place names context name fault (environments files place) h
 
 -- an import over a stack that was loaded
 record IsHeld (files : Files) (place : Place) (names : List (List ℕ)) (envs : List Environment) (held : Held) : Type 0 where
@@ -60,3 +59,17 @@ pub import_whole : (files : Files) (place : Place) (names : List (List ℕ)) (co
     → serves names context ≡ true → is_among name names ≡ true → import_in files place names context name ≡ Ok answer
 import_whole files place names context name held answer is h served among =
     whole_by files place names context name held (environments files place) served among h ∙ ap Ok (sym is)
+
+pub whole_told : (files : Option Files) (answer : Result ImportAnswer EnvFault) (held : Held) (context : Context) (name : List ℕ)
+    → IfSome files (λ all. IfOk answer (λ given. given ≡ import_over all (loaded_maps all held.library) held.envs context name))
+    → IfSome files (λ all. IfOk answer (λ given. (place : Place) → (names : List (List ℕ)) → stack_in all place names ≡ Ok held → serves names context ≡ true → is_among name names ≡ true → import_in all place names context name ≡ Ok given))
+whole_told None answer held context name told = tt
+whole_told (Some all) (Ok given) held context name told = λ place names h served among. import_whole all place names context name held given told h served among
+whole_told (Some all) (Err fault) held context name told = tt
+
+pub refused_told : (files : Option Files) (place : Place) (names : List (List ℕ)) (answer : Result Held EnvFault)
+    → IfSome files (λ all. Loads (stack_in all place names) answer)
+    → IfSome files (λ all. IfErr answer (λ fault. (context : Context) → (name : List ℕ) → Refuses (import_in all place names context name) fault))
+refused_told None place names answer told = tt
+refused_told (Some all) place names (Ok held) told = tt
+refused_told (Some all) place names (Err fault) told = λ context name. stack_refused all place names context name fault told

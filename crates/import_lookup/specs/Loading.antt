@@ -8,11 +8,13 @@ use Rattle.pkg_world.specs.Tree.{Files}
 use Rattle.env_maps.specs.declared.id.Context.{Context}
 use Rattle.env_maps.specs.declared.id.Context.TheVariants.{Top, Package}
 use Rattle.env_maps.specs.ByName.{found_in, is_among}
-use Rattle.env_maps.specs.Candidates.{candidates_in}
+use Rattle.env_maps.specs.declared.id.Id.{Id}
+use Rattle.env_maps.specs.Candidates.{candidates_in, root_at, graph_at, path_at}
 use Rattle.env_maps.specs.Each.{read_each}
 use Rattle.env_maps.specs.Files.{Read, then_file}
 use Rattle.env_maps.specs.Library.{library_in}
-use Rattle.env_maps.specs.ThreeMaps.{Maps, project_maps, folder_maps}
+use Rattle.env_maps.specs.Maps.{root_of, graph_of, path_with}
+use Rattle.env_maps.specs.ThreeMaps.{Maps}
 use Rattle.import_lookup.specs.declared.answer.ImportAnswer.{ImportAnswer}
 use Rattle.import_lookup.specs.declared.loaded.Environment.{Environment}
 use Rattle.import_lookup.specs.declared.loaded.Environment.TheVariants as kinds
@@ -45,10 +47,26 @@ held_of files place names envs = then_file (all_loaded files names envs) (with_l
 abbrev pub stack_in : Files → Place → List (List ℕ) → Read Held
 stack_in files place names = then_file (environments files place) (held_of files place names)
 
--- the maps of an environment that was loaded
+-- what an environment says that was loaded
+abbrev pub loaded_root : Loaded → List ℕ → Option Id
+loaded_root (Project env) name = root_of env name
+loaded_root (Folder found) name = root_at name (found_in found name)
+
+abbrev pub loaded_graph : Loaded → Id → Option (List (List ℕ × List ℕ))
+loaded_graph (Project env) id = graph_of env id
+loaded_graph (Folder found) id = graph_at id.uuid (found_in found id.name)
+
+abbrev pub loaded_path : Files → List (List ℕ × Option (List ℕ)) → Loaded → Id → Option Path
+loaded_path files library (Project env) id = path_with files (found_in library id.name) env id
+loaded_path files library (Folder found) id = path_at id.uuid (found_in found id.name)
+
+-- its maps
 abbrev pub loaded_maps : Files → List (List ℕ × Option (List ℕ)) → Loaded → Maps
-loaded_maps files library (Project env) = project_maps files (found_in library) env
-loaded_maps files library (Folder found) = folder_maps (found_in found)
+loaded_maps files library env = record { roots = loaded_root env; graph = loaded_graph env; paths = loaded_path files library env }
+
+-- its maps without the paths, for which files are looked at
+abbrev pub kept_maps : Loaded → Maps
+kept_maps env = record { roots = loaded_root env; graph = loaded_graph env; paths = λ id. None }
 
 -- whether a stack that was loaded with these names serves a context
 abbrev pub serves : List (List ℕ) → Context → Bool

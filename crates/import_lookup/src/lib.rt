@@ -2,13 +2,13 @@
 #![tactic(auto)]
 
 mod answer;
-mod import;
+mod importing;
 mod load_path;
 mod loaded;
 mod names;
 mod stack;
 
 pub use answer::ImportAnswer;
-pub use import::import;
+pub use importing::import;
 pub use names::names_of;
 pub use stack::Stack;

@@ -1,6 +1,7 @@
 //! The environments of a stack.
-ghost use Rattle.std.specs.Prelude.{◌≡◌, ◌≤◌, ℕ, List, Option, Ok, IfSome, IfOk, IfErr, MatchResult};
-ghost use Rattle.pkg_world.specs.Tree.{Files};
+ghost use Rattle.std.specs.Prelude.{◌≡◌, ◌≤◌, Ok, IfSome, IfOk, IfErr, MatchResult};
+ghost use Rattle.env_maps.specs.ByName.{found_in};
+ghost use Rattle.env_maps.specs.Candidates.{path_at};
 ghost use Rattle.env_maps.specs.Each.{Adds};
 ghost use Rattle.env_maps.specs.Files.{Refuses};
 ghost use Rattle.env_maps.specs.Faults.{OnlyReadFault, ReadFaultRose};
@@ -29,7 +30,7 @@ pub enum Loaded {
 impl Loaded {
     /// The identity that the environment gives a name. The one error is want of memory.
     pub(crate) fn root(&self, alloc: Global, name: &Name) -> Result<Option<Id>, AllocError>
-        ensures { (all : Files) → (library : List (List ℕ × Option (List ℕ))) → IfOk result (λ id. id ≡ (spec.loaded_maps all library self.now).roots name.now) }
+        ensures { IfOk result (λ id. id ≡ spec.loaded_root self.now name.now) }
     {
         match self {
             Loaded::Project(env) => env.root(alloc, name),
@@ -44,7 +45,7 @@ impl Loaded {
         context: &Context,
         name: &Name,
     ) -> Result<DepAnswer, AllocError>
-        ensures { (all : Files) → (library : List (List ℕ × Option (List ℕ))) → IfOk result (λ answer. answer ≡ dep_answer name.now (in_graph (spec.loaded_maps all library self.now).graph context.now)) }
+        ensures { IfOk result (λ answer. answer ≡ dep_answer name.now (in_graph (spec.loaded_graph self.now) context.now)) }
     {
         match self {
             Loaded::Project(env) => env.dep(alloc, context, name),
@@ -62,7 +63,7 @@ impl Loaded {
         library: &Library,
         id: &Id,
     ) -> Result<Option<NormPath>, EnvFault>
-        ensures path { IfSome (S.files store.old) (λ all. IfOk result (λ path. path ≡ (spec.loaded_maps all library.now self.now).paths id.now)) }
+        ensures path { IfSome (S.files store.old) (λ all. IfOk result (λ path. path ≡ spec.loaded_path all library.now self.now id.now)) }
         ensures refused { IfErr result (OnlyReadFault (S.read_faults store.old) (S.read_faults store.new)) }
         ensures files { S.files store.new ≡ S.files store.old }
         ensures later { S.read_faults store.old ≤ S.read_faults store.new }
@@ -81,7 +82,7 @@ fn folder_entry<S: Store>(
     env: &FolderEnv,
     id: &Id,
 ) -> Result<Option<NormPath>, EnvFault>
-    ensures path { (all : Files) → (library : List (List ℕ × Option (List ℕ))) → IfOk result (λ path. path ≡ (spec.loaded_maps all library (Loaded.Folder env.now)).paths id.now) }
+    ensures path { IfOk result (λ path. path ≡ path_at id.now.uuid (found_in env.now id.now.name)) }
     ensures refused { IfErr result (OnlyReadFault (S.read_faults store.old) (S.read_faults store.new)) }
     ensures files { S.files store.new ≡ S.files store.old }
     ensures later { S.read_faults store.old ≤ S.read_faults store.new }

@@ -1,15 +1,19 @@
 //! The names for which a stack is loaded.
-ghost use Rattle.std.specs.Prelude.{◌≡◌, ◌∷◌, [], IfOk};
+ghost use Rattle.std.specs.Prelude.{◌≡◌, ◌∷◌, [], true, IfOk};
+ghost use Rattle.env_maps.specs.ByName.{is_among};
 ghost use Rattle.import_lookup.specs.Loading as spec;
 
 use env_maps::{Context, Id};
 use pkg_world::{Duplicate, Listed, Name, Names};
 use std::alloc::{AllocError, Global};
 
-/// The names for which an import reads files: the context's and then the imported one, once where they are the same. The
-/// one error is want of memory.
+/// The names for which an import reads files: the context's and then the imported one, once where they are the same. A
+/// stack that is loaded with them serves the import. The one error is want of memory.
+#[tactic(auto, using(crate::proofs::Served::names_serve, crate::proofs::Served::names_have))]
 pub fn names_of(alloc: Global, context: &Context, name: &Name) -> Result<Names, AllocError>
-    ensures { IfOk result (λ names. names.items ≡ spec.names_of context.now name.now) }
+    ensures names { IfOk result (λ names. names.items ≡ spec.names_of context.now name.now) }
+    ensures serves { spec.serves (spec.names_of context.now name.now) context.now ≡ true }
+    ensures among { is_among name.now (spec.names_of context.now name.now) ≡ true }
 {
     match context {
         Context::Top => only(alloc, name),

@@ -1,13 +1,10 @@
 //! The import of a name from a context.
 ghost use Rattle.std.specs.Prelude.{◌≡◌, ◌≤◌, ℕ, List, Option, Ok, Some, true, IfSome, IfOk, IfErr};
-ghost use Rattle.std.specs.Option.{option_and_then};
 ghost use Rattle.pkg_world.specs.declared.place.Place.{Place};
-ghost use Rattle.pkg_world.specs.Tree.{Files};
 ghost use Rattle.env_maps.specs.ByName.{is_among};
-ghost use Rattle.env_maps.specs.Maps.{dep_of};
 ghost use Rattle.env_maps.specs.Faults.{OnlyReadFault};
 ghost use Rattle.import_lookup.specs.Import as spec;
-ghost use Rattle.import_lookup.specs.Loading.{loaded_maps, import_in, serves, stack_in};
+ghost use Rattle.import_lookup.specs.Loading.{kept_maps, loaded_maps, import_in, serves, stack_in};
 
 use crate::answer::ImportAnswer;
 use crate::stack::Stack;
@@ -69,7 +66,7 @@ fn identity(
     context: &Context,
     name: &Name,
 ) -> Result<Option<Id>, AllocError>
-    ensures { (all : Files) → IfOk result (λ id. id ≡ spec.identity (loaded_maps all stack.now.library) stack.now.envs context.now name.now) }
+    ensures { IfOk result (λ id. id ≡ spec.identity kept_maps stack.now.envs context.now name.now) }
 {
     match context {
         Context::Top => root_in(alloc, stack, name),
@@ -87,7 +84,7 @@ fn identity(
 
 /// The identity that a name has at the top level.
 fn root_in(alloc: Global, stack: &Stack, name: &Name) -> Result<Option<Id>, AllocError>
-    ensures { (all : Files) → IfOk result (λ id. id ≡ spec.root_in (loaded_maps all stack.now.library) stack.now.envs name.now) }
+    ensures { IfOk result (λ id. id ≡ spec.root_in kept_maps stack.now.envs name.now) }
 {
     for env in stack.envs() {
         match env.root(alloc, name)? {
@@ -105,7 +102,7 @@ fn dependency_in(
     context: &Context,
     name: &Name,
 ) -> Result<Option<Id>, AllocError>
-    ensures { (all : Files) → IfOk result (λ id. id ≡ spec.dependency_in (loaded_maps all stack.now.library) stack.now.envs context.now name.now) }
+    ensures { IfOk result (λ id. id ≡ spec.dependency_in kept_maps stack.now.envs context.now name.now) }
 {
     for env in stack.envs() {
         match env.dep(alloc, context, name)? {

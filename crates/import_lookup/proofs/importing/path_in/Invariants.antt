@@ -2,7 +2,7 @@
 use Rattle.std.proofs.Common.{◌≡◌, ◌≤◌, IfSome, drop}
 use Rattle.import_lookup.specs.Import.{path_in}
 use Rattle.import_lookup.specs.Loading.{loaded_maps}
-use Rattle.import_lookup.proofs.import.path_in.Given as goal
+use Rattle.import_lookup.proofs.importing.path_in.Given as goal
 
 abbrev pub invariant-envs : goal.invariant-envs
 invariant-envs g l =
