@@ -93,10 +93,7 @@ impl FolderEnv {
         ensures { IfOk result (λ answer. answer ≡ dep_answer name.now ((folder_maps (found_in self.now)).graph id.now)) }
     {
         match self.candidate_of(id) {
-            Some(candidate) => match &candidate.deps {
-                Some(deps) => dep_among(alloc, deps.items(), name),
-                None => Ok(DepAnswer::NotMine),
-            },
+            Some(candidate) => dep_of_candidate(alloc, candidate, name),
             None => Ok(DepAnswer::NotMine),
         }
     }
@@ -149,6 +146,20 @@ impl FolderEnv {
             None => None,
         }
     }
+}
+
+/// What a package's dependencies say of a name; one without a project file is no context.
+fn dep_of_candidate(
+    alloc: Global,
+    candidate: &Candidate,
+    name: &Name,
+) -> Result<DepAnswer, AllocError>
+    ensures { IfOk result (λ answer. answer ≡ dep_answer name.now candidate.now.deps) }
+{
+    let Some(deps) = &candidate.deps else {
+        return Ok(DepAnswer::NotMine);
+    };
+    dep_among(alloc, deps.items(), name)
 }
 
 fn add_candidates<S: Store>(

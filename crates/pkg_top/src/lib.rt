@@ -26,6 +26,8 @@ mod tests_verify;
 mod top;
 mod verify;
 mod which;
+#[cfg(test)]
+mod which_tests;
 mod words;
 #[cfg(test)]
 mod words_tests;

@@ -202,7 +202,7 @@ fn no_source_line(alloc: Global, uuid: &Option<Uuid>) -> Result<String, AllocErr
 }
 
 /// An identifier in lower case with hyphens, nil as `-`.
-fn uuid_text(alloc: Global, uuid: &Option<Uuid>) -> Result<String, AllocError>
+pub(crate) fn uuid_text(alloc: Global, uuid: &Option<Uuid>) -> Result<String, AllocError>
     ensures { IfOk result (λ text. string_bytes text ≡ text_of_uuid uuid.now) }
 {
     match uuid {

@@ -78,7 +78,7 @@ const WORDS: [(&str, &str); 8] = [
     ("which App Lib", "2 |error 2 BadWords which\n"),
     ("frob", "2 |error 2 BadWords frob\n"),
     ("", "2 |error 2 BadWords -\n"),
-    ("which App --from X", "17 |error 17 NotBuilt --from\n"),
+    ("which App --from X", FOUND_APP),
 ];
 
 /// Files beside the project's own, and what `which App` prints.
@@ -105,10 +105,7 @@ const DEPENDENCY: [([File; 2], &str); 7] = [
         [LIB, ("/lib", "")],
         "0 Lib 00000000-0000-4000-8000-000000000002 /lib\n|",
     ),
-    (
-        [LIB_WITHOUT_PATH, LIB_FILE],
-        "17 |error 17 NotBuilt stanza\n",
-    ),
+    ([LIB_WITHOUT_PATH, LIB_FILE], LIB_NO_SOURCE),
     ([LIB, ("/p/JuliaManifest.toml", "")], LIB_NO_SOURCE),
     ([NOTHING, ("/p/Manifest.toml/x", "")], LIB_NO_SOURCE),
 ];
@@ -337,12 +334,12 @@ fn refused_files_are_named_with_their_cause(rt: HostRuntime) -> Result<(), Fail>
 }
 
 #[test]
-fn places_that_are_not_built_are_refused(rt: HostRuntime) -> Result<(), Fail> {
+fn project_texts_and_load_paths_are_taken(rt: HostRuntime) -> Result<(), Fail> {
     let alloc = rt.alloc();
     for (project, load_path, want) in [
         ("@", None, "4 |error 4 NoIdentity App\n"),
-        ("@", Some(""), "17 |error 17 NotBuilt load_path\n"),
-        ("/p", Some(""), "17 |error 17 NotBuilt load_path\n"),
+        ("@", Some(""), "4 |error 4 NoIdentity App\n"),
+        ("/p", Some(""), "4 |error 4 NoIdentity App\n"),
         ("/p/Project.toml", None, FOUND_APP),
         ("", None, FOUND_APP),
         ("../..", None, FOUND_APP),
@@ -358,13 +355,19 @@ fn places_that_are_not_built_are_refused(rt: HostRuntime) -> Result<(), Fail> {
 }
 
 /// A call that fails, and its path.
-const FAILING: [(StoreCall, u64, &str); 6] = [
+const FAILING: [(StoreCall, u64, &str); 8] = [
     (StoreCall::Kind, 1, "/p/JuliaProject.toml"),
     (StoreCall::Read, 1, "/p/Project.toml"),
     (StoreCall::Kind, 2, "/p/JuliaManifest.toml"),
     (StoreCall::Read, 2, "/p/Manifest.toml"),
-    (StoreCall::Kind, 3, "/lib"),
-    (StoreCall::Kind, 4, "/lib/src/Lib.jl"),
+    (
+        StoreCall::Kind,
+        3,
+        "/d/environments/v1.11/JuliaProject.toml",
+    ),
+    (StoreCall::Kind, 4, "/d/environments/v1.11/Project.toml"),
+    (StoreCall::Kind, 5, "/lib"),
+    (StoreCall::Kind, 6, "/lib/src/Lib.jl"),
 ];
 
 fn lib_store(alloc: Global) -> Result<MemStore, PathFault> {

@@ -3,6 +3,7 @@ ghost use Rattle.std.specs.Prelude.{◌≡◌, ◌==◌, ◌||◌, not, if◌the
 ghost use Rattle.std.specs.List.{list_all, list_any};
 ghost use Rattle.std.specs.Option.{option_copied, option_and_then};
 ghost use Rattle.std.specs.Str.{bytes_eq};
+ghost use Rattle.uuid.specs.Text.{parsed};
 ghost use Rattle.pkg_top.specs.Words as spec;
 ghost use Rattle.pkg_top.specs.Pieces.{pieces as pieces_meant};
 ghost use Rattle.pkg_top.specs.declared.pieces.Piece.TheVariants.{Operand};
@@ -193,12 +194,22 @@ fn package_of(alloc: Global, name: &str, text: &str) -> Result<Option<Context>, 
     if !is_name(name) {
         return Ok(None);
     }
-    match Uuid::parse_str(text) {
-        Ok(uuid) => Ok(Some(Context::Package(Id {
+    match identifier(text) {
+        Some(uuid) => Ok(Some(Context::Package(Id {
             uuid: Some(uuid),
             name: Name::of(alloc, name)?,
         }))),
-        Err(_) => Ok(None),
+        None => Ok(None),
+    }
+}
+
+/// The identifier that a text spells.
+fn identifier(text: &str) -> Option<Uuid>
+    ensures { result ≡ parsed text.now }
+{
+    match Uuid::parse_str(text) {
+        Ok(id) => Some(id),
+        Err(_) => None,
     }
 }
 

@@ -1,10 +1,13 @@
 //! Examples of what words ask for.
+use crate::status::uuid_text;
 use crate::words::{Asked, read_words};
+use env_maps::{Context, Id};
+use pkg_world::Name;
 use std::alloc::{AllocError, Global};
 use std::test::Fail;
 
 /// Words, and what they ask for: a list of `verify` in brackets.
-const WORDS: [(&str, &str); 60] = [
+const WORDS: [(&str, &str); 70] = [
     ("", "bad -"),
     ("frob", "bad frob"),
     ("--all", "bad --all"),
@@ -20,8 +23,24 @@ const WORDS: [(&str, &str); 60] = [
     ("which a/b", "bad which"),
     ("which a=b", "bad which"),
     ("which a@b", "bad which"),
-    ("which App --from X", "not built --from"),
-    ("which --from=", "not built --from"),
+    ("which App --from X", "which App from X -"),
+    (
+        "which --from=X=00000000-0000-4000-8000-0000000000aB App",
+        "which App from X 00000000-0000-4000-8000-0000000000ab",
+    ),
+    ("which App --from", "bad which"),
+    ("which --from=", "bad which"),
+    ("which --from X", "bad which"),
+    ("which App --from=", "bad which"),
+    ("which App --from X=", "bad which"),
+    ("which App --from X=1", "bad which"),
+    (
+        "which App --from =00000000-0000-4000-8000-0000000000ab",
+        "bad which",
+    ),
+    ("which App --from a/b", "bad which"),
+    ("which App --from X --from X", "bad which"),
+    ("which App Lib --from X", "bad which"),
     ("which App Lib --ext", "not built --ext"),
     ("which -x -- --ext=E --from", "not built --ext"),
     ("which App --extensions", "bad which"),
@@ -69,7 +88,8 @@ const WORDS: [(&str, &str); 60] = [
 
 fn asked_text(alloc: Global, asked: &Asked) -> Result<String, AllocError> {
     match asked {
-        Asked::Which(name) => format!(in alloc; "which {name}"),
+        Asked::Which(name, Context::Top) => format!(in alloc; "which {name}"),
+        Asked::Which(name, Context::Package(id)) => from_text(alloc, name, id),
         Asked::Offers(name) => format!(in alloc; "offers {name}"),
         Asked::Status(all) => format!(in alloc; "status {all}"),
         Asked::Verify(name, None) => format!(in alloc; "verify {name}"),
@@ -77,6 +97,12 @@ fn asked_text(alloc: Global, asked: &Asked) -> Result<String, AllocError> {
         Asked::BadWords(word) => format!(in alloc; "bad {word}"),
         Asked::NotBuilt(word) => format!(in alloc; "not built {word}"),
     }
+}
+
+fn from_text(alloc: Global, name: &Name, id: &Id) -> Result<String, AllocError> {
+    let uuid = uuid_text(alloc, &id.uuid)?;
+    let from = id.name.as_str();
+    format!(in alloc; "which {name} from {from} {uuid}")
 }
 
 fn words_of(alloc: Global, command: &str) -> Result<Vec<String>, AllocError> {
