@@ -3,3 +3,4 @@ pub mod Endings
 pub mod Found
 pub mod OfferReads
 pub mod OfferRows
+pub mod StanzaFound

@@ -4,6 +4,7 @@ pub mod Words
 pub mod OfferLines
 pub mod OfferTables
 pub mod OffersDue
+pub mod StanzaPlaces
 pub mod StatusDue
 pub mod VerifyDue
 pub mod VerifySteps

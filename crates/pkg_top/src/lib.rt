@@ -11,6 +11,7 @@ mod offers;
 mod pieces;
 mod place;
 mod stanza_line;
+mod stanza_places;
 mod status;
 mod status_lines;
 #[cfg(test)]

@@ -4,9 +4,11 @@ ghost use Rattle.std.specs.List.{flat_map};
 ghost use Rattle.std.specs.Option.{option_copied};
 ghost use Rattle.pkg_world.specs.Path.{path_text};
 ghost use Rattle.manifest_file.specs.Said.{said_stanza};
+ghost use Rattle.pkg_top.specs.StanzaPlaces.{place_in, stanza_at};
 ghost use Rattle.pkg_top.specs.StatusDue as spec;
 
 use crate::cause_line::plain_uuid;
+use crate::stanza_places::{Places, places_of, stanza_with};
 use jl_versions::Version;
 use manifest_file::{Origin, Stanza};
 use pkg_world::{Name, NormPath};
@@ -37,11 +39,26 @@ pub(crate) fn push_deps(
 ) -> Result<(), AllocError>
     ensures { OnOk result (string_bytes text.new ≡ string_bytes text.old ++ flat_map (spec.dep_line (map said_stanza stanzas.now)) deps.now) }
 {
+    let places = places_of(alloc, stanzas)?;
     for (name, uuid) in deps {
-        let rest = found_text(alloc, stanza_with(uuid, stanzas))?;
-        push_package(alloc, text, name, uuid, rest.as_str())?;
+        push_dep(alloc, text, name, uuid, stanzas, &places)?;
     }
     Ok(())
+}
+
+/// Appends the line of a dependency, whose stanza is the one at its identifier's place.
+fn push_dep(
+    alloc: Global,
+    text: &mut String,
+    name: &Name,
+    uuid: &Uuid,
+    stanzas: &[Stanza],
+    places: &Places,
+) -> Result<(), AllocError>
+    ensures { OnOk result (string_bytes text.new ≡ string_bytes text.old ++ spec.package_line name.now uuid.now (spec.found_text (stanza_at stanzas.now (place_in places.now uuid.now)))) }
+{
+    let rest = found_text(alloc, stanza_with(places, uuid, stanzas))?;
+    push_package(alloc, text, name, uuid, rest.as_str())
 }
 
 /// Appends the lines of packed registries.
@@ -62,18 +79,6 @@ pub(crate) fn push_path(text: &mut String, word: &str, path: &NormPath) -> Resul
     text.push_str(path.as_str())?;
     text.push('\n')?;
     Ok(())
-}
-
-/// The first stanza of an identifier.
-fn stanza_with<'a>(uuid: &Uuid, stanzas: &'a [Stanza]) -> Option<&'a Stanza>
-    ensures { option_map said_stanza (option_copied result) ≡ spec.stanza_with uuid.now (map said_stanza stanzas.now) }
-{
-    for stanza in stanzas {
-        if stanza.uuid == *uuid {
-            return Some(stanza);
-        }
-    }
-    None
 }
 
 fn push_package(

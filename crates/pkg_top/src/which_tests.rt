@@ -3,13 +3,13 @@ use crate::tests::{File, fill, told};
 use crate::{PlaceFault, place_from};
 use env_maps::{Context, Id, ProjectEnv};
 use pkg_world::{MemStore, Name, NormPath, PathFault, Place, StoreCall};
-use std::alloc::Global;
+use std::alloc::{AllocError, Global};
 use std::test::Fail;
 use uuid::Uuid;
 
 /// Three projects that need Lib. The first one's stanza names a tree that no depot has; the second has K too, which
 /// doesn't need Lib there; in the third K needs it. Lib's entry file lies where the second says.
-const PROJECTS: [File; 7] = [
+const PROJECTS: &[File] = &[
     (
         "/p/Project.toml",
         "[deps]\nLib = \"00000000-0000-4000-8000-000000000002\"\n",
@@ -41,18 +41,33 @@ const PROJECTS: [File; 7] = [
     ("/lib2/src/Lib.jl", ""),
 ];
 
-/// The first project's stanza of Lib has a path.
-const LIB_IN_FIRST: File = (
-    "/p/Manifest.toml",
-    "manifest_format = \"2.0\"\n[[deps.Lib]]\nuuid = \"00000000-0000-4000-8000-000000000002\"\n\
-    path = \"/lib1\"\n",
-);
-
-const LIB_FIRST_FILE: File = ("/lib1/src/Lib.jl", "");
+/// Two projects that need Lib, each with a path for it.
+const PATHS: &[File] = &[
+    (
+        "/p/Project.toml",
+        "[deps]\nLib = \"00000000-0000-4000-8000-000000000002\"\n",
+    ),
+    (
+        "/p/Manifest.toml",
+        "manifest_format = \"2.0\"\n[[deps.Lib]]\nuuid = \"00000000-0000-4000-8000-000000000002\"\n\
+        path = \"/lib1\"\n",
+    ),
+    (
+        "/e2/Project.toml",
+        "[deps]\nLib = \"00000000-0000-4000-8000-000000000002\"\n",
+    ),
+    (
+        "/e2/Manifest.toml",
+        "manifest_format = \"2.0\"\n[[deps.Lib]]\nuuid = \"00000000-0000-4000-8000-000000000002\"\n\
+        path = \"/lib2\"\n",
+    ),
+    ("/lib1/src/Lib.jl", ""),
+    ("/lib2/src/Lib.jl", ""),
+];
 
 /// A package folder: N without a project file, M with one, O as a file alone, and L, whose project file has no identifier,
 /// in a folder named as a file.
-const FOLDER: [File; 6] = [
+const FOLDER: &[File] = &[
     ("/f/N/src/N.jl", ""),
     ("/f/M/src/M.jl", ""),
     (
@@ -68,7 +83,7 @@ const FOLDER: [File; 6] = [
 ];
 
 /// A named environment, a standard library folder, an application in the current folder and a project beside it.
-const WORLD: [File; 12] = [
+const WORLD: &[File] = &[
     (
         "/d/environments/v1.11/Project.toml",
         "[deps]\nTool = \"00000000-0000-4000-8000-000000000040\"\n\
@@ -118,11 +133,15 @@ type Case = (
     &'static str,
 );
 
+const FROM_K: &str = "which Lib --from K=00000000-0000-4000-8000-000000000007";
+
 const NO_LIB: &str = "4 |error 4 NoIdentity Lib\n";
 
 const NO_TOOL: &str = "4 |error 4 NoIdentity Tool\n";
 
 const NO_APP: &str = "4 |error 4 NoIdentity App\n";
+
+const FIRST_LIB: &str = "0 Lib 00000000-0000-4000-8000-000000000002 /lib1/src/Lib.jl\n|";
 
 const SECOND_LIB: &str = "0 Lib 00000000-0000-4000-8000-000000000002 /lib2/src/Lib.jl\n|";
 
@@ -136,7 +155,7 @@ const FOUND_APP: &str = "0 App 00000000-0000-4000-8000-000000000001 /p/src/App.j
 
 const FOUND_M: &str = "0 M 00000000-0000-4000-8000-000000000008 /f/M/src/M.jl\n|";
 
-const OVER_PROJECTS: [Case; 6] = [
+const OVER_PROJECTS: &[Case] = &[
     (Some("@:/e2:/e3"), Some("/p"), "which Lib", SECOND_LIB),
     (
         Some("@:/e2:/e3"),
@@ -170,7 +189,12 @@ const OVER_PROJECTS: [Case; 6] = [
     ),
 ];
 
-const OVER_FOLDER: [Case; 13] = [
+const OVER_PATHS: &[Case] = &[
+    (Some("@:/e2"), Some("/p"), "which Lib", FIRST_LIB),
+    (Some("/e2:@"), Some("/p"), "which Lib", SECOND_LIB),
+];
+
+const OVER_FOLDER: &[Case] = &[
     (Some("/f"), None, "which N", "0 N - /f/N/src/N.jl\n|"),
     (Some("/f"), None, "which O", "0 O - /f/O.jl\n|"),
     (Some("/f"), None, "which M --from N", FOUND_M),
@@ -221,7 +245,7 @@ const OVER_FOLDER: [Case; 13] = [
     (Some("/f"), None, "which ..", "4 |error 4 NoIdentity ..\n"),
 ];
 
-const OVER_WORLD: [Case; 20] = [
+const OVER_WORLD: &[Case] = &[
     (None, Some("/p"), "which Tool", TOOL),
     (
         Some("@"),
@@ -287,53 +311,64 @@ fn place_at(
     )
 }
 
-/// What the words of a case print over these files.
-fn told_of(alloc: Global, store: &mut MemStore, case: &Case) -> Result<String, Fail> {
-    let (load_path, project, command, _) = *case;
-    let place = place_at(alloc, load_path, project)?;
-    Ok(told(alloc, command, &place, store)?)
-}
-
 fn filled(alloc: Global, files: &[File]) -> Result<MemStore, PathFault> {
     let mut store = MemStore::make(alloc)?;
     fill(alloc, &mut store, files)?;
     Ok(store)
 }
 
+/// What the words of a case print over a store.
+fn told_of(alloc: Global, store: &mut MemStore, case: &Case) -> Result<String, Fail> {
+    let (load_path, project, command, _) = *case;
+    let place = place_at(alloc, load_path, project)?;
+    Ok(told(alloc, command, &place, store)?)
+}
+
+/// The words of the cases that print something else over these files, each with what they print.
+fn others(alloc: Global, files: &[File], cases: &[Case]) -> Result<String, Fail> {
+    let mut store = filled(alloc, files)?;
+    let mut all = String::new(alloc);
+    for case in cases {
+        let told = told_of(alloc, &mut store, case)?;
+        push_other(&mut all, case, &told)?;
+    }
+    Ok(all)
+}
+
+fn push_other(all: &mut String, case: &Case, told: &String) -> Result<(), AllocError> {
+    let (_, _, command, want) = *case;
+    if told.as_str() != want {
+        all.push_str(command)?;
+        all.push_str(told.as_str())?;
+    }
+    Ok(())
+}
+
 #[test]
 fn the_first_environment_that_has_the_key_decides(rt: HostRuntime) -> Result<(), Fail> {
-    let alloc = rt.alloc();
-    let mut store = filled(alloc, PROJECTS.as_slice())?;
-    for case in OVER_PROJECTS.iter() {
-        let told = told_of(alloc, &mut store, case)?;
-        assert_eq!(rt; told.as_str(), case.3, "{}", case.2);
-    }
-    fill(alloc, &mut store, [LIB_IN_FIRST, LIB_FIRST_FILE].as_slice())?;
-    let told = told_of(alloc, &mut store, &OVER_PROJECTS[0])?;
-    let want = "0 Lib 00000000-0000-4000-8000-000000000002 /lib1/src/Lib.jl\n|";
-    assert_eq!(rt; told.as_str(), want);
+    let others = others(rt.alloc(), PROJECTS, OVER_PROJECTS)?;
+    assert_eq!(rt; others.as_str(), "");
+    Ok(())
+}
+
+#[test]
+fn the_first_path_of_an_identity_decides(rt: HostRuntime) -> Result<(), Fail> {
+    let others = others(rt.alloc(), PATHS, OVER_PATHS)?;
+    assert_eq!(rt; others.as_str(), "");
     Ok(())
 }
 
 #[test]
 fn packages_of_a_folder_are_found(rt: HostRuntime) -> Result<(), Fail> {
-    let alloc = rt.alloc();
-    let mut store = filled(alloc, FOLDER.as_slice())?;
-    for case in OVER_FOLDER.iter() {
-        let told = told_of(alloc, &mut store, case)?;
-        assert_eq!(rt; told.as_str(), case.3, "{}", case.2);
-    }
+    let others = others(rt.alloc(), FOLDER, OVER_FOLDER)?;
+    assert_eq!(rt; others.as_str(), "");
     Ok(())
 }
 
 #[test]
 fn elements_of_the_load_path_mean_environments(rt: HostRuntime) -> Result<(), Fail> {
-    let alloc = rt.alloc();
-    let mut store = filled(alloc, WORLD.as_slice())?;
-    for case in OVER_WORLD.iter() {
-        let told = told_of(alloc, &mut store, case)?;
-        assert_eq!(rt; told.as_str(), case.3, "{}", case.2);
-    }
+    let others = others(rt.alloc(), WORLD, OVER_WORLD)?;
+    assert_eq!(rt; others.as_str(), "");
     Ok(())
 }
 
@@ -349,11 +384,11 @@ const CONSULTED: [&str; 8] = [
     "/s/Lib/Project.toml",
 ];
 
-const ENTRIES: [File; 2] = [("/f/K/src/K.jl", ""), ("/f/Lib/src/Lib.jl", "")];
+const ENTRIES: &[File] = &[("/f/K/src/K.jl", ""), ("/f/Lib/src/Lib.jl", "")];
 
 /// A store in which the consulted files from one on are no TOML.
 fn broken_from(alloc: Global, first: usize) -> Result<MemStore, PathFault> {
-    let mut store = filled(alloc, ENTRIES.as_slice())?;
+    let mut store = filled(alloc, ENTRIES)?;
     for (place, path) in CONSULTED.iter().enumerate() {
         let text = if place < first { "" } else { "= x" };
         fill(alloc, &mut store, [(*path, text)].as_slice())?;
@@ -361,25 +396,33 @@ fn broken_from(alloc: Global, first: usize) -> Result<MemStore, PathFault> {
     Ok(store)
 }
 
+/// What the import of Lib from K prints where the consulted files from one on are no TOML.
+fn told_from(alloc: Global, first: usize) -> Result<String, Fail> {
+    let mut store = broken_from(alloc, first)?;
+    let place = place_at(alloc, Some("/f:@:/e2"), Some("/p"))?;
+    Ok(told(alloc, FROM_K, &place, &mut store)?)
+}
+
 #[test]
 fn every_consulted_file_is_read_in_its_order(rt: HostRuntime) -> Result<(), Fail> {
     let alloc = rt.alloc();
-    let from_k = "which Lib --from K=00000000-0000-4000-8000-000000000007";
-    let case = (Some("/f:@:/e2"), Some("/p"), from_k, "");
     for (first, path) in CONSULTED.iter().enumerate() {
-        let mut store = broken_from(alloc, first)?;
-        let told = told_of(alloc, &mut store, &case)?;
+        let told = told_from(alloc, first)?;
         let want = format!(in alloc; "3 |error 3 BadFile {path} BadToml\n")?;
         assert_eq!(rt; told.as_str(), want.as_str());
     }
-    let mut store = broken_from(alloc, CONSULTED.len())?;
-    let told = told_of(alloc, &mut store, &case)?;
+    Ok(())
+}
+
+#[test]
+fn consulted_files_may_be_empty(rt: HostRuntime) -> Result<(), Fail> {
+    let told = told_from(rt.alloc(), CONSULTED.len())?;
     assert_eq!(rt; told.as_str(), NO_LIB);
     Ok(())
 }
 
 /// K lies in a package folder and needs Lib, whose path the active project knows; a file is named as Lib.
-const MIXED: [File; 8] = [
+const MIXED: &[File] = &[
     ("/f/K/src/K.jl", ""),
     (
         "/f/K/Project.toml",
@@ -421,43 +464,59 @@ const FAILING: [(StoreCall, u64, &str); 19] = [
     (StoreCall::Kind, 14, "/lib2/src/Lib.jl"),
 ];
 
+/// What the import of Lib from K prints where that call fails, and then again.
+fn told_failing(alloc: Global, call: StoreCall, nth: u64) -> Result<String, Fail> {
+    let mut store = filled(alloc, MIXED)?;
+    store.fail_at(alloc, call, nth)?;
+    let place = place_at(alloc, Some("/f:@"), Some("/p"))?;
+    let mut first = told(alloc, FROM_K, &place, &mut store)?;
+    let again = told(alloc, FROM_K, &place, &mut store)?;
+    first.push_str(again.as_str())?;
+    Ok(first)
+}
+
 #[test]
 fn each_call_of_an_import_that_fails_is_told(rt: HostRuntime) -> Result<(), Fail> {
     let alloc = rt.alloc();
-    let from_k = "which Lib --from K=00000000-0000-4000-8000-000000000007";
-    let case = (Some("/f:@"), Some("/p"), from_k, SECOND_LIB);
     for (call, nth, path) in FAILING {
-        let mut store = filled(alloc, MIXED.as_slice())?;
-        store.fail_at(alloc, call, nth)?;
-        let first = told_of(alloc, &mut store, &case)?;
-        let want = format!(in alloc; "8 |error 8 ReadFault {path}\n")?;
-        assert_eq!(rt; first.as_str(), want.as_str());
-        let again = told_of(alloc, &mut store, &case)?;
-        assert_eq!(rt; again.as_str(), SECOND_LIB, "after {path}");
+        let told = told_failing(alloc, call, nth)?;
+        let want = format!(in alloc; "8 |error 8 ReadFault {path}\n{SECOND_LIB}")?;
+        assert_eq!(rt; told.as_str(), want.as_str());
     }
     Ok(())
 }
 
-/// The entry path of Dates over the named environment, as text.
-fn dates_entry(alloc: Global) -> Result<String, Fail> {
-    let mut store = filled(alloc, WORLD.as_slice())?;
+/// The identity of Dates.
+fn dates(alloc: Global) -> Result<Id, Fail> {
+    Ok(Id {
+        uuid: Some(Uuid::parse_str("00000000-0000-4000-8000-000000000030")?),
+        name: Name::of(alloc, "Dates")?,
+    })
+}
+
+/// The named environment.
+fn named_env(alloc: Global, store: &mut MemStore) -> Result<ProjectEnv, Fail> {
     let place = place_at(alloc, None, None)?;
     let root = NormPath::root(alloc);
     let file = NormPath::join(alloc, &root, "d/environments/v1.11/Project.toml")?;
-    let env = ProjectEnv::load(alloc, &mut store, &place, &file)?;
-    let id = Id {
-        uuid: Some(Uuid::parse_str("00000000-0000-4000-8000-000000000030")?),
-        name: Name::of(alloc, "Dates")?,
-    };
-    match env.entry(alloc, &mut store, &Context::Top, &id)? {
-        Some(path) => Ok(String::from_str(alloc, path.as_str())?),
-        None => Ok(String::from_str(alloc, "none")?),
+    Ok(ProjectEnv::load(alloc, store, &place, &file)?)
+}
+
+/// An entry path as text.
+fn entry_text(alloc: Global, entry: &Option<NormPath>) -> Result<String, AllocError> {
+    match entry {
+        Some(path) => String::from_str(alloc, path.as_str()),
+        None => String::from_str(alloc, "none"),
     }
 }
 
 #[test]
 fn a_standard_library_has_its_entry(rt: HostRuntime) -> Result<(), Fail> {
-    let entry = dates_entry(rt.alloc())?;
-    assert_eq!(rt; entry.as_str(), "/s/Dates/src/Dates.jl");
+    let alloc = rt.alloc();
+    let mut store = filled(alloc, WORLD)?;
+    let env = named_env(alloc, &mut store)?;
+    let entry = env.entry(alloc, &mut store, &Context::Top, &dates(alloc)?)?;
+    let text = entry_text(alloc, &entry)?;
+    assert_eq!(rt; text.as_str(), "/s/Dates/src/Dates.jl");
     Ok(())
 }

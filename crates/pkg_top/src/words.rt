@@ -3,7 +3,6 @@ ghost use Rattle.std.specs.Prelude.{◌≡◌, ◌==◌, ◌||◌, not, if◌the
 ghost use Rattle.std.specs.List.{list_all, list_any};
 ghost use Rattle.std.specs.Option.{option_copied, option_and_then};
 ghost use Rattle.std.specs.Str.{bytes_eq};
-ghost use Rattle.uuid.specs.Text.{parsed};
 ghost use Rattle.pkg_top.specs.Words as spec;
 ghost use Rattle.pkg_top.specs.Pieces.{pieces as pieces_meant};
 ghost use Rattle.pkg_top.specs.declared.pieces.Piece.TheVariants.{Operand};
@@ -13,7 +12,7 @@ use crate::pieces::{Piece, read_pieces};
 use env_maps::{Context, Id};
 use pkg_world::{Duplicate, Name, Text};
 use std::alloc::{AllocError, Global};
-use uuid::Uuid;
+use toml_view::identifier;
 
 /// What words ask for.
 #[derive(Debug, Drop)]
@@ -200,16 +199,6 @@ fn package_of(alloc: Global, name: &str, text: &str) -> Result<Option<Context>, 
             name: Name::of(alloc, name)?,
         }))),
         None => Ok(None),
-    }
-}
-
-/// The identifier that a text spells.
-fn identifier(text: &str) -> Option<Uuid>
-    ensures { result ≡ parsed text.now }
-{
-    match Uuid::parse_str(text) {
-        Ok(id) => Some(id),
-        Err(_) => None,
     }
 }
 

@@ -4,7 +4,6 @@ ghost use Rattle.toml.specs.View.{view, table_view};
 ghost use Rattle.toml_view.specs.Reading.{at};
 ghost use Rattle.toml_view.specs.Causes.{caused};
 ghost use Rattle.toml_view.specs.Answers.{HasPath};
-ghost use Rattle.uuid.specs.Text.{parsed};
 ghost use Rattle.registry_tables.specs.Answers.{at_file, Gives, NoReadFault, ReadFaultRose};
 ghost use Rattle.registry_tables.specs.Registry as spec;
 ghost use Rattle.registry_tables.specs.Registry.{LoadsRegistry, GivesRegistry};
@@ -17,7 +16,8 @@ use crate::seen::Seen;
 use pkg_world::{Duplicate, Listed, Name, NormPath, PathFault, Store, Values};
 use std::alloc::Global;
 use toml_view::{
-    NameReader, Reader, Stop, Table, UuidReader, Value, halted, need, opt, other_shape, stop_at,
+    NameReader, Reader, Stop, Table, UuidReader, Value, halted, identifier, need, opt, other_shape,
+    stop_at,
 };
 use uuid::Uuid;
 
@@ -225,15 +225,5 @@ fn unless_seen(seen: &mut Seen, uuid: Uuid) -> Result<Uuid, Stop>
         Ok(uuid)
     } else {
         Err(other_shape())
-    }
-}
-
-/// The identifier that a text spells.
-fn identifier(text: &str) -> Option<Uuid>
-    ensures { result ≡ parsed text.now }
-{
-    match Uuid::parse_str(text) {
-        Ok(id) => Some(id),
-        Err(_) => None,
     }
 }

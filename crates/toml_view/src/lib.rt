@@ -20,7 +20,7 @@ pub use keys::{KeyFault, need_text, opt_text, text_or_list, uuid_table};
 pub use print::{PrintFault, print_table};
 pub use reader::{Reader, need, opt, other_shape, read_at, stop_at};
 pub use readers::{
-    Each, ListOf, NameReader, TextReader, TextsReader, UuidReader, table_at, texts_at,
+    Each, ListOf, NameReader, TextReader, TextsReader, UuidReader, identifier, table_at, texts_at,
 };
 pub use refusal::{Flaw, Refusal, Stop};
 pub use toml::{Table, Value};

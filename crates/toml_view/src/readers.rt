@@ -69,8 +69,8 @@ impl Reader for UuidReader {
     }
 }
 
-/// The identifier that a text spells.
-fn identifier(text: &str) -> Option<Uuid>
+/// The identifier that a text spells, as the crate `uuid` reads it (RFC 9562); None for any other text.
+pub fn identifier(text: &str) -> Option<Uuid>
     ensures { result ≡ parsed text.now }
 {
     match Uuid::parse_str(text) {
