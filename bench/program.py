@@ -1,10 +1,11 @@
 #!/usr/bin/env python3
 """Measures the built program on worlds that it makes in a temporary folder, beside its peers in the same run.
 
-    bench/program.py [offers] [status] [verify]
+    bench/program.py [offers] [status] [stanzas] [verify]
 
 offers: a registry of 12,000 packages, one of them with 400 versions and 40 sections in each table; the peer reads the bytes
-of the same files. status: a project file with 1 MiB of dependencies, and one of 2 MiB. verify: an installed tree of 20,000
+of the same files. status: a project file with 1 MiB of dependencies, and one of 2 MiB. stanzas: `status`, and
+`which` of the last dependency, with 5,000, 10,000 and 20,000 dependencies that each have a stanza. verify: an installed tree of 20,000
 files and 200 MB; the peer is git, which hashes the same files and writes the tree. Each line is the least time of three
 runs, with the most memory that the process had. Needs `/usr/bin/time`.
 """
@@ -106,6 +107,22 @@ def status(folder):
         told(f"status of {mebibytes} MiB of dependencies", spent, most, f"{len(out.splitlines())} lines")
 
 
+def stanzas(folder):
+    for count in (5000, 10000, 20000):
+        project = os.path.join(folder, f"stanzas{count}")
+        ids = [(f"Package{n:06}", identifier(n)) for n in range(count)]
+        deps = "".join(f'{name} = "{own}"\n' for name, own in ids)
+        write(os.path.join(project, "Project.toml"), "[deps]\n" + deps)
+        text = "".join(f'[[deps.{name}]]\nuuid = "{own}"\nversion = "1.0.0"\npath = "dev/{name}"\n' for name, own in ids)
+        write(os.path.join(project, "Manifest.toml"), 'manifest_format = "2.0"\n' + text)
+        last = ids[-1][0]
+        write(os.path.join(project, "dev", last, "src", last + ".jl"), "")
+        env = place(folder, project, os.path.join(folder, "none"))
+        for words in (["status"], ["which", last]):
+            spent, most, out = measured([os.path.join(ROOT, "jlpkg")] + words, env)
+            told(f"{words[0]} with {count} dependencies and stanzas", spent, most, f"{len(out.splitlines())} lines")
+
+
 def crc32c(data):
     crc = 0xFFFFFFFF
     for byte in data:
@@ -152,11 +169,11 @@ def verify(folder):
 
 
 def main():
-    wanted = sys.argv[1:] or ["offers", "status", "verify"]
+    wanted = sys.argv[1:] or ["offers", "status", "stanzas", "verify"]
     subprocess.run([os.path.join(ROOT, "jlpkg"), "which"], stdout=subprocess.DEVNULL, stderr=subprocess.DEVNULL)
     for name in wanted:
         with tempfile.TemporaryDirectory() as folder:
-            {"offers": offers, "status": status, "verify": verify}[name](folder)
+            {"offers": offers, "status": status, "stanzas": stanzas, "verify": verify}[name](folder)
 
 
 if __name__ == "__main__":
