@@ -2,7 +2,7 @@
 -- grammars of Specifiers and Ranges say which texts have a value, and `IsFirstBadOf` which place is the first bad one.
 --     specifier_meant text   the parts of a specifier, or the length of the longest front with which one begins
 --     range_meant text       the bounds of a range, or the length of the longest front with which one begins
-use Rattle.std.specs.Prelude.{◌≡◌, ℕ, List, Result, Ok, Err}
+use Rattle.std.specs.Prelude.{◌≡◌, ℕ, List, Result, Err}
 use Rattle.jl_versions.specs.Machine.{meant_by}
 use Rattle.compat_spec.specs.declared.part.Part.{Part}
 use Rattle.compat_spec.specs.declared.fault.SpecFault.{SpecFault}

@@ -1,5 +1,6 @@
 pub mod Listing
 pub mod ByName
+pub mod Each
 pub mod Path
 pub mod Steps
 pub mod Tree

@@ -1,8 +1,9 @@
 -- What is read at the keys of a table, and where the first refusal stands. A reading is a function of the value: what it
 -- means, or its refusal, whose path begins at that value.
-use Rattle.std.specs.Prelude.{ℕ, List, [], ◌∷◌, ◌++◌, Option, Some, None, Result, Ok, Err}
-use Rattle.toml.specs.Data.{Data, Items, no_items, item, Members, no_members, member, get_member, as_str, as_array, as_table}
+use Rattle.std.specs.Prelude.{ℕ, Bool, List, [], ◌∷◌, ◌++◌, is_some, Option, Some, None, Result, Ok, Err}
+use Rattle.toml.specs.Data.{Data, Items, no_items, item, Members, no_members, member, get_member, as_str, as_bool, as_array, as_table}
 use Rattle.uuid.specs.Text.{parsed}
+use Rattle.pkg_world.specs.TreeIds.{tree_of}
 use Rattle.jl_versions.specs.Meant.{version_meant}
 use Rattle.jl_versions.specs.declared.version.Version.{Version}
 use Rattle.toml_view.specs.declared.refusal.Flaw.TheVariants.{Shape, Version as BadVersionAt}
@@ -44,6 +45,10 @@ mapped f (Err refusal) = Err refusal
 abbrev pub text_of : Data → Result (List ℕ) Refusal
 text_of value = or_shape (as_str value)
 
+-- whether a table has the key
+abbrev pub has_key : List ℕ → Members → Bool
+has_key key members = is_some (get_member key members)
+
 -- what stands at a key that may be absent
 abbrev pub opt_at : {T : Type 0} → (Data → Result T Refusal) → List ℕ → Option Data → Result (Option T) Refusal
 opt_at read key None = Ok None
@@ -63,6 +68,14 @@ need read key members = need_at read key (get_member key members)
 -- an identifier: a text that the crate `uuid` reads
 abbrev pub uuid_of : Data → Result (List ℕ) Refusal
 uuid_of value = chained (λ text. or_shape (parsed text)) (text_of value)
+
+-- the identifier of a tree: a text of 40 hexadecimal digits
+abbrev pub tree_id_of : Data → Result (List ℕ) Refusal
+tree_id_of value = chained (λ text. or_shape (tree_of text)) (text_of value)
+
+-- true or false
+abbrev pub flag_of : Data → Result Bool Refusal
+flag_of value = or_shape (as_bool value)
 
 -- a version, or the first bad place of its text (Julia manual, Version Number Literals)
 abbrev pub or_version : Result Version ℕ → Result Version Refusal

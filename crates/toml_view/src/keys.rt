@@ -3,7 +3,7 @@ ghost use Rattle.std.specs.Prelude.{◌≡◌, Some, Ok, MatchResult, option_map
 ghost use Rattle.std.specs.Option.{option_copied};
 ghost use Rattle.toml.specs.Data.{get_member};
 ghost use Rattle.toml.specs.View.{view, table_view};
-ghost use Rattle.toml_view.specs.Reading.{at, opt, need, text_of, uuid_of, table_at, texts_at};
+ghost use Rattle.toml_view.specs.Reading.{at, has_key, opt, need, text_of, uuid_of, table_at, texts_at};
 ghost use Rattle.toml_view.specs.Answers.{RefusesKey, IsShapeFault, IsKeyFault, HasPath, HasShape};
 
 use crate::readers::{UuidReader, table_at, texts_at};
@@ -28,6 +28,16 @@ pub(crate) fn member<'a>(table: &'a Table, key: &str) -> Option<&'a Value>
     ensures { option_map (λ v. view v.now) result ≡ get_member key.now (table_view table.now) }
 {
     table.get(key)
+}
+
+/// Whether the table has that key.
+pub fn has_key(table: &Table, key: &str) -> bool
+    ensures { result ≡ has_key key.now (table_view table.now) }
+{
+    match member(table, key) {
+        Some(_) => true,
+        None => false,
+    }
 }
 
 /// The text at a key that may be absent. It is refused as BadShape of the key exactly where the value is no text.

@@ -16,11 +16,12 @@ mod versions;
 
 pub use document::{ViewFault, view};
 pub use halt::{Halt, halted, unviewed};
-pub use keys::{KeyFault, need_text, opt_text, text_or_list, uuid_table};
+pub use keys::{KeyFault, has_key, need_text, opt_text, text_or_list, uuid_table};
 pub use print::{PrintFault, print_table};
 pub use reader::{Reader, need, opt, other_shape, read_at, stop_at};
 pub use readers::{
-    Each, ListOf, NameReader, TextReader, TextsReader, UuidReader, identifier, table_at, texts_at,
+    Each, FlagReader, ListOf, NameReader, NamesReader, TextReader, TextsReader, TreeReader,
+    UuidReader, identifier, table_at, texts_at,
 };
 pub use refusal::{Flaw, Refusal, Stop};
 pub use toml::{Table, Value};

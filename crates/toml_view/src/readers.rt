@@ -1,15 +1,15 @@
-//! The readers of texts, identifiers, lists and tables.
+//! The readers of texts, identifiers, truth values, lists and tables.
 ghost use Rattle.std.specs.Prelude.{◌≡◌, Ok, Some, None, IfOk, IfErr, IsTrue};
 ghost use Rattle.toml.specs.View.{view, array_view, table_view};
 ghost use Rattle.uuid.specs.Text.{parsed};
 ghost use Rattle.pkg_world.specs.ByName.{is_by_name};
-ghost use Rattle.toml_view.specs.Reading.{text_of, uuid_of, texts_of, list_of, items_read, table_of, each, table_at, texts_at};
+ghost use Rattle.toml_view.specs.Reading.{text_of, uuid_of, tree_id_of, flag_of, texts_of, list_of, items_read, table_of, each, table_at, texts_at};
 ghost use Rattle.toml_view.specs.Answers.{Refuses, HasPath};
 
 use crate::reader::{Reader, opt, other_shape, read_at};
 use crate::refusal::Stop;
 use crate::values::NamedValues;
-use pkg_world::{Listed, Name, Text, Values};
+use pkg_world::{Listed, Name, Text, TreeId, Values};
 use std::alloc::Global;
 use toml::value::Array;
 use toml::{Table, Value};
@@ -79,6 +79,43 @@ pub fn identifier(text: &str) -> Option<Uuid>
     }
 }
 
+/// Reads the identifier of a tree, a text of 40 hexadecimal digits.
+#[derive(Clone, Copy, Debug, Drop)]
+pub struct TreeReader;
+
+impl Reader for TreeReader {
+    type Out = TreeId;
+
+    ghost gives = { λ _ value. tree_id_of value };
+
+    fn read(&self, _alloc: Global, value: &Value) -> Result<TreeId, Stop> {
+        match value.as_str() {
+            Some(text) => match TreeId::read(text) {
+                Some(tree) => Ok(tree),
+                None => Err(other_shape()),
+            },
+            None => Err(other_shape()),
+        }
+    }
+}
+
+/// Reads true or false.
+#[derive(Clone, Copy, Debug, Drop)]
+pub struct FlagReader;
+
+impl Reader for FlagReader {
+    type Out = bool;
+
+    ghost gives = { λ _ value. flag_of value };
+
+    fn read(&self, _alloc: Global, value: &Value) -> Result<bool, Stop> {
+        match value.as_bool() {
+            Some(flag) => Ok(flag),
+            None => Err(other_shape()),
+        }
+    }
+}
+
 /// Reads a list, each member with the inner reader. A member's refusal has the list's path.
 #[derive(Clone, Copy, Debug, Drop)]
 pub struct ListOf<R> {
@@ -126,6 +163,27 @@ impl Reader for TextsReader {
                 Ok(Values::of(list))
             }
             None => ListOf { reader: TextReader }.read(alloc, value),
+        }
+    }
+}
+
+/// Reads a name as the list of it alone, or a list of names.
+#[derive(Clone, Copy, Debug, Drop)]
+pub struct NamesReader;
+
+impl Reader for NamesReader {
+    type Out = Values<Name>;
+
+    ghost gives = { λ _ value. texts_of value };
+
+    fn read(&self, alloc: Global, value: &Value) -> Result<Values<Name>, Stop> {
+        match value.as_str() {
+            Some(text) => {
+                let mut list = Listed::make(alloc);
+                list.push(Name::of(alloc, text)?)?;
+                Ok(Values::of(list))
+            }
+            None => ListOf { reader: NameReader }.read(alloc, value),
         }
     }
 }

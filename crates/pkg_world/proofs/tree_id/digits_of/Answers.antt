@@ -1,5 +1,5 @@
 -- The digits of bytes spell these bytes again.
-use Rattle.std.proofs.Common.{◌≡◌, ap, ◌∙◌}
+use Rattle.std.proofs.Common.{ap, ◌∙◌}
 use Rattle.hex.proofs.HexLemmas.{decode_sized-encode_lower}
 use Rattle.pkg_world.specs.TreeIds.{spelled, tree_of}
 use Rattle.pkg_world.proofs.tree_id.digits_of.Goals as goal
