@@ -5,13 +5,13 @@ use Rattle.std.specs.Cmp.Lexicographic.{slice_cmp}
 use Rattle.toml.specs.Data.{Data, string, Members, get_member}
 use Rattle.toml.specs.View.{items_of}
 use Rattle.toml_view.specs.Causes.{then_read}
-use Rattle.toml_view.specs.Reading.{text_of, uuid_of, version_at, texts_of, or_shape, or_empty, at, chained, mapped, opt, opt_at, need, need_at, items_read, table_at, table_of, list_of}
+use Rattle.toml_view.specs.Reading.{text_of, uuid_of, tree_id_of, flag_of, version_at, texts_of, or_shape, or_empty, at, chained, mapped, opt, opt_at, need, need_at, items_read, table_at, table_of, list_of}
 use Rattle.toml_view.specs.declared.refusal.Refusal.{Refusal}
 use Rattle.pkg_world.specs.TreeIds.{tree_text}
 use Rattle.manifest_file.specs.Chains.{fronts, backs, both}
 use Rattle.manifest_file.specs.Entries.{origin_of, entry_of}
 use Rattle.manifest_file.specs.Saying.{SaidStanza, all_read, ids_of, stanza_of, stanza_with}
-use Rattle.manifest_file.specs.Values.{flag_of, flag_at, dependencies_of, dependencies_at, tree_id_of, tree_at}
+use Rattle.manifest_file.specs.Values.{flag_at, dependencies_of, dependencies_at, tree_at}
 use Rattle.manifest_file.specs.Written as spec
 use Rattle.manifest_file.specs.ReadsBack.{TreeBack, OriginBack, StanzaBack, StanzasBack}
 use Rattle.manifest_file.specs.declared.bearers.Bearers.{Bearers}

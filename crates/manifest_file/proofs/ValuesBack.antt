@@ -7,11 +7,11 @@ use Rattle.std.proofs.lemmas.Slice.Eq.{bytes_eq-Decides}
 use Rattle.toml.specs.Data.{string}
 use Rattle.toml.specs.View.{items_of}
 use Rattle.toml_view.specs.Causes.{then_read}
-use Rattle.toml_view.specs.Reading.{text_of, uuid_of, version_at, or_version, texts_of, or_shape, or_empty, at, chained, mapped, opt_at, items_read, table_of, each}
+use Rattle.toml_view.specs.Reading.{text_of, uuid_of, flag_of, version_at, or_version, texts_of, or_shape, or_empty, at, chained, mapped, opt_at, items_read, table_of, each}
 use Rattle.jl_versions.specs.declared.version.Version.{Version}
 use Rattle.pkg_world.specs.ByName.{is_by_name}
 use Rattle.manifest_file.specs.Saying.{all_read, the_one, listed_id, in_name_order, ids_of}
-use Rattle.manifest_file.specs.Values.{flag_of, dependencies_of}
+use Rattle.manifest_file.specs.Values.{dependencies_of}
 use Rattle.manifest_file.specs.Written.{members_opt, id_put, triggers_put, uuid_data, version_data, names_data, ids_data, dependencies_data, extensions_data, flag_data, are_listable, is_the_one}
 use Rattle.manifest_file.specs.ReadsBack.{UuidBack, VersionBack, IdsBack, DependenciesBack}
 use Rattle.manifest_file.specs.declared.bearers.Bearers.{Bearers}

@@ -8,13 +8,13 @@ ghost use Rattle.manifest_file.specs.Answers.{Gives};
 use crate::dependencies::Dependencies;
 use crate::entry::Entry;
 use crate::origin::Origin;
-use crate::readers::{DependenciesReader, NamesReader, dependencies_at, flag_at, tree_at};
+use crate::readers::{dependencies_at, flag_at, tree_at};
 use jl_versions::Version;
 use pkg_world::{Name, TreeId, Values};
 use std::alloc::Global;
 use toml_view::{
-    NameReader, NamedValues, Reader, Stop, Table, UuidReader, Value, VersionReader, need, opt,
-    other_shape, table_at,
+    NameReader, NamedValues, NamesReader, Reader, Stop, Table, UuidReader, Value, VersionReader,
+    need, opt, other_shape, table_at,
 };
 use uuid::Uuid;
 

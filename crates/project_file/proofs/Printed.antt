@@ -3,7 +3,7 @@ use Rattle.std.proofs.Common.{◌≡◌, ℕ, ◌≤◌, Bool, true, false, ◌&
 use Rattle.std.proofs.lemmas.Bool.{cases_Bool, and_parts}
 use Rattle.std.specs.Option.{IfSome}
 use Rattle.toml.specs.Data.{Data, depth, Members, members_depth, get_member, same_key}
-use Rattle.toml_view.specs.Reading.{chained, mapped, opt_at, text_of, uuid_of, texts_of, version_at}
+use Rattle.toml_view.specs.Reading.{opt_at, text_of, uuid_of, texts_of, version_at}
 use Rattle.toml_view.specs.declared.refusal.Refusal.{Refusal}
 use Rattle.jl_versions.specs.declared.version.Version.{Version}
 use Rattle.project_file.specs.declared.source.Source.{Source}
@@ -12,8 +12,8 @@ use Rattle.project_file.specs.Places.{text_in, source_of}
 use Rattle.project_file.specs.Keys.{is_named, unnamed, names_none}
 use Rattle.project_file.specs.Said.{Said}
 use Rattle.project_file.specs.Projects.{project_of, uuid_in, version_in, ids_in, extensions_in, compat_in, sources_in}
-use Rattle.project_file.specs.Putting.{put_some, each_at, Puts}
-use Rattle.project_file.specs.Chain.{project_chain}
+use Rattle.project_file.specs.Putting.{put_some, each_at, Puts, PutsBack, PutsMiddle, PutsFront}
+use Rattle.project_file.specs.Chain.{fronts, middles, backs, front_of, middle_of, back_of, in_turn, project_chain}
 use Rattle.project_file.proofs.Members.{keys_equal, get_put, get_put-other, unnamed_put, unnamed_plain, get_plain, depth_put}
 use Rattle.project_file.proofs.Orders.{project_in_order}
 
@@ -83,12 +83,24 @@ read_back read key meant value pairs rest new whole none there reads =
 
 -- ---- how deep
 
-pub puts_depth : {T : Type 0} {read : Option Data → Result T Refusal} {key : List ℕ} {meant : T} {old new : Members} → Puts read key meant old new → members_depth old ≤ 63 → members_depth new ≤ 63
+puts_depth : {T : Type 0} {read : Option Data → Result T Refusal} {key : List ℕ} {meant : T} {old new : Members} → Puts read key meant old new → members_depth old ≤ 63 → members_depth new ≤ 63
 puts_depth {key = key} {old = old} {new = new} puts within = deep puts.value puts.flat puts.put_there
   where
     deep : (value : Option Data) → IfSome value (λ v. depth v ≤ 2) → new ≡ put_some key value old → members_depth new ≤ 63
     deep None flat there = subst (λ ms. members_depth ms ≤ 63) (sym there) within
     deep (Some value) flat there = subst (λ ms. members_depth ms ≤ 63) (sym there) (depth_put key value old 63 (omega (arith, flat)) within)
+
+pub back_depth : {uuid : Option (List ℕ)} {version : Option Version} {weakdeps : List (List ℕ × List ℕ)} {old new : Members} → PutsBack uuid version weakdeps old new
+    → members_depth old ≤ 63 → members_depth new ≤ 63
+back_depth puts within = puts_depth puts.uuid_put (puts_depth puts.version_put (puts_depth puts.weakdeps_put within))
+
+pub middle_depth : {manifest name : Option (List ℕ)} {sources : List (List ℕ × Source)} {old new : Members} → PutsMiddle manifest name sources old new
+    → members_depth old ≤ 63 → members_depth new ≤ 63
+middle_depth puts within = puts_depth puts.manifest_put (puts_depth puts.name_put (puts_depth puts.sources_put within))
+
+pub front_depth : {compat : List (List ℕ × Spelled)} {deps : List (List ℕ × List ℕ)} {extensions : List (List ℕ × List (List ℕ))} {extras : List (List ℕ × List ℕ)} {old new : Members}
+    → PutsFront compat deps extensions extras old new → members_depth old ≤ 63 → members_depth new ≤ 63
+front_depth puts within = puts_depth puts.compat_put (puts_depth puts.deps_put (puts_depth puts.extensions_put (puts_depth puts.extras_put within)))
 
 -- ---- a project
 
@@ -110,54 +122,41 @@ module _ (name manifest uuid : Option (List ℕ)) (version : Option Version) (de
         rest = rest;
       }
 
-  pub printed : (m1 m2 m3 m4 m5 m6 m7 m8 m9 m10 : Members)
-      → Puts (each_at uuid_of (codes "weakdeps")) (codes "weakdeps") weakdeps rest m1
-      → Puts (opt_at version_at (codes "version")) (codes "version") version m1 m2
-      → Puts (opt_at uuid_of (codes "uuid")) (codes "uuid") uuid m2 m3
-      → Puts (each_at source_of (codes "sources")) (codes "sources") sources m3 m4
-      → Puts (opt_at text_of (codes "name")) (codes "name") name m4 m5
-      → Puts (opt_at text_of (codes "manifest")) (codes "manifest") manifest m5 m6
-      → Puts (each_at uuid_of (codes "extras")) (codes "extras") extras m6 m7
-      → Puts (each_at texts_of (codes "extensions")) (codes "extensions") extensions m7 m8
-      → Puts (each_at uuid_of (codes "deps")) (codes "deps") deps m8 m9
-      → Puts (each_at spec_of (codes "compat")) (codes "compat") compat m9 m10
-      → names_none rest ≡ true → project_of m10 ≡ Ok project
-  unfolding project_chain is_named
-  printed m1 m2 m3 m4 m5 m6 m7 m8 m9 m10 p1 p2 p3 p4 p5 p6 p7 p8 p9 p10 none =
+  pub printed : (m1 m2 m3 : Members) → PutsBack uuid version weakdeps rest m1 → PutsMiddle manifest name sources m1 m2 → PutsFront compat deps extensions extras m2 m3
+      → names_none rest ≡ true → project_of m3 ≡ Ok project
+  unfolding project_chain front_of middle_of back_of is_named
+  printed m1 m2 m3 back middle front none =
       let pairs : Pairs =
-      (codes "compat", p10.value) ∷ (codes "deps", p9.value) ∷ (codes "extensions", p8.value) ∷ (codes "extras", p7.value) ∷ (codes "manifest", p6.value)
-      ∷ (codes "name", p5.value) ∷ (codes "sources", p4.value) ∷ (codes "uuid", p3.value) ∷ (codes "version", p2.value) ∷ (codes "weakdeps", p1.value) ∷ [] in
-      let whole : m10 ≡ put_all pairs rest =
-      p10.put_there ∙ ap (put_some (codes "compat") p10.value) (p9.put_there ∙ ap (put_some (codes "deps") p9.value) (p8.put_there
-      ∙ ap (put_some (codes "extensions") p8.value) (p7.put_there ∙ ap (put_some (codes "extras") p7.value) (p6.put_there
-      ∙ ap (put_some (codes "manifest") p6.value) (p5.put_there ∙ ap (put_some (codes "name") p5.value) (p4.put_there
-      ∙ ap (put_some (codes "sources") p4.value) (p3.put_there ∙ ap (put_some (codes "uuid") p3.value) (p2.put_there
-      ∙ ap (put_some (codes "version") p2.value) p1.put_there)))))))) in
-      let compat_back : compat_in m10 ≡ Ok compat = read_back (each_at spec_of (codes "compat")) (codes "compat") compat p10.value pairs rest m10 whole (get_plain (codes "compat") rest refl none) refl p10.reads in
-      let deps_back : ids_in (codes "deps") m10 ≡ Ok deps = read_back (each_at uuid_of (codes "deps")) (codes "deps") deps p9.value pairs rest m10 whole (get_plain (codes "deps") rest refl none) refl p9.reads in
-      let extensions_back : extensions_in m10 ≡ Ok extensions =
-      read_back (each_at texts_of (codes "extensions")) (codes "extensions") extensions p8.value pairs rest m10 whole (get_plain (codes "extensions") rest refl none) refl p8.reads in
-      let extras_back : ids_in (codes "extras") m10 ≡ Ok extras = read_back (each_at uuid_of (codes "extras")) (codes "extras") extras p7.value pairs rest m10 whole (get_plain (codes "extras") rest refl none) refl p7.reads in
-      let manifest_back : text_in (codes "manifest") m10 ≡ Ok manifest =
-      read_back (opt_at text_of (codes "manifest")) (codes "manifest") manifest p6.value pairs rest m10 whole (get_plain (codes "manifest") rest refl none) refl p6.reads in
-      let name_back : text_in (codes "name") m10 ≡ Ok name = read_back (opt_at text_of (codes "name")) (codes "name") name p5.value pairs rest m10 whole (get_plain (codes "name") rest refl none) refl p5.reads in
-      let sources_back : sources_in m10 ≡ Ok sources = read_back (each_at source_of (codes "sources")) (codes "sources") sources p4.value pairs rest m10 whole (get_plain (codes "sources") rest refl none) refl p4.reads in
-      let uuid_back : uuid_in m10 ≡ Ok uuid = read_back (opt_at uuid_of (codes "uuid")) (codes "uuid") uuid p3.value pairs rest m10 whole (get_plain (codes "uuid") rest refl none) refl p3.reads in
-      let version_back : version_in m10 ≡ Ok version = read_back (opt_at version_at (codes "version")) (codes "version") version p2.value pairs rest m10 whole (get_plain (codes "version") rest refl none) refl p2.reads in
-      let weakdeps_back : ids_in (codes "weakdeps") m10 ≡ Ok weakdeps =
-      read_back (each_at uuid_of (codes "weakdeps")) (codes "weakdeps") weakdeps p1.value pairs rest m10 whole (get_plain (codes "weakdeps") rest refl none) refl p1.reads in
-      let rest_back : unnamed m10 ≡ rest = ap unnamed whole ∙ unnamed_put_all pairs rest refl ∙ unnamed_plain rest none in
-      sym (project_in_order m10)
-      ∙ (λ i. chained (λ a. chained (λ b. chained (λ c. chained (λ d. chained (λ e. chained (λ f. chained (λ g. chained (λ h. chained (λ j. mapped (λ k. record {
-        name = f;
-        uuid = h;
-        version = j;
-        deps = b;
-        weakdeps = k;
-        extensions = c;
-        compat = a;
-        extras = d;
-        sources = g;
-        manifest = e;
-        rest = rest_back i;
-      }) (weakdeps_back i)) (version_back i)) (uuid_back i)) (sources_back i)) (name_back i)) (manifest_back i)) (extras_back i)) (extensions_back i)) (deps_back i)) (compat_back i))
+      (codes "compat", front.compat_put.value) ∷ (codes "deps", front.deps_put.value) ∷ (codes "extensions", front.extensions_put.value) ∷ (codes "extras", front.extras_put.value)
+      ∷ (codes "manifest", middle.manifest_put.value) ∷ (codes "name", middle.name_put.value) ∷ (codes "sources", middle.sources_put.value)
+      ∷ (codes "uuid", back.uuid_put.value) ∷ (codes "version", back.version_put.value) ∷ (codes "weakdeps", back.weakdeps_put.value) ∷ [] in
+      let whole : m3 ≡ put_all pairs rest =
+      front.compat_put.put_there ∙ ap (put_some (codes "compat") front.compat_put.value) (front.deps_put.put_there
+      ∙ ap (put_some (codes "deps") front.deps_put.value) (front.extensions_put.put_there ∙ ap (put_some (codes "extensions") front.extensions_put.value) (front.extras_put.put_there
+      ∙ ap (put_some (codes "extras") front.extras_put.value) (middle.manifest_put.put_there ∙ ap (put_some (codes "manifest") middle.manifest_put.value) (middle.name_put.put_there
+      ∙ ap (put_some (codes "name") middle.name_put.value) (middle.sources_put.put_there ∙ ap (put_some (codes "sources") middle.sources_put.value) (back.uuid_put.put_there
+      ∙ ap (put_some (codes "uuid") back.uuid_put.value) (back.version_put.put_there ∙ ap (put_some (codes "version") back.version_put.value) back.weakdeps_put.put_there)))))))) in
+      let compat_back : compat_in m3 ≡ Ok compat =
+      read_back (each_at spec_of (codes "compat")) (codes "compat") compat front.compat_put.value pairs rest m3 whole (get_plain (codes "compat") rest refl none) refl front.compat_put.reads in
+      let deps_back : ids_in (codes "deps") m3 ≡ Ok deps =
+      read_back (each_at uuid_of (codes "deps")) (codes "deps") deps front.deps_put.value pairs rest m3 whole (get_plain (codes "deps") rest refl none) refl front.deps_put.reads in
+      let extensions_back : extensions_in m3 ≡ Ok extensions =
+      read_back (each_at texts_of (codes "extensions")) (codes "extensions") extensions front.extensions_put.value pairs rest m3 whole (get_plain (codes "extensions") rest refl none) refl front.extensions_put.reads in
+      let extras_back : ids_in (codes "extras") m3 ≡ Ok extras =
+      read_back (each_at uuid_of (codes "extras")) (codes "extras") extras front.extras_put.value pairs rest m3 whole (get_plain (codes "extras") rest refl none) refl front.extras_put.reads in
+      let manifest_back : text_in (codes "manifest") m3 ≡ Ok manifest =
+      read_back (opt_at text_of (codes "manifest")) (codes "manifest") manifest middle.manifest_put.value pairs rest m3 whole (get_plain (codes "manifest") rest refl none) refl middle.manifest_put.reads in
+      let name_back : text_in (codes "name") m3 ≡ Ok name =
+      read_back (opt_at text_of (codes "name")) (codes "name") name middle.name_put.value pairs rest m3 whole (get_plain (codes "name") rest refl none) refl middle.name_put.reads in
+      let sources_back : sources_in m3 ≡ Ok sources =
+      read_back (each_at source_of (codes "sources")) (codes "sources") sources middle.sources_put.value pairs rest m3 whole (get_plain (codes "sources") rest refl none) refl middle.sources_put.reads in
+      let uuid_back : uuid_in m3 ≡ Ok uuid =
+      read_back (opt_at uuid_of (codes "uuid")) (codes "uuid") uuid back.uuid_put.value pairs rest m3 whole (get_plain (codes "uuid") rest refl none) refl back.uuid_put.reads in
+      let version_back : version_in m3 ≡ Ok version =
+      read_back (opt_at version_at (codes "version")) (codes "version") version back.version_put.value pairs rest m3 whole (get_plain (codes "version") rest refl none) refl back.version_put.reads in
+      let weakdeps_back : ids_in (codes "weakdeps") m3 ≡ Ok weakdeps =
+      read_back (each_at uuid_of (codes "weakdeps")) (codes "weakdeps") weakdeps back.weakdeps_put.value pairs rest m3 whole (get_plain (codes "weakdeps") rest refl none) refl back.weakdeps_put.reads in
+      let rest_back : unnamed m3 ≡ rest = ap unnamed whole ∙ unnamed_put_all pairs rest refl ∙ unnamed_plain rest none in
+      sym (project_in_order m3)
+      ∙ (λ i. in_turn (fronts (compat_back i) (deps_back i) (extensions_back i) (extras_back i)) (middles (manifest_back i) (name_back i) (sources_back i))
+      (backs (uuid_back i) (version_back i) (weakdeps_back i)) (rest_back i))

@@ -1,12 +1,14 @@
 -- What each answer of the crate's calls tells.
-use Rattle.std.specs.Prelude.{◌≡◌, Option, Some, None, Result, Err}
+use Rattle.std.specs.Prelude.{◌≡◌, Option, Some, None, Result, Ok, Err, MatchResult}
 use Rattle.pkg_world.specs.declared.cause.Cause.{Cause}
 use Rattle.pkg_world.specs.declared.cause.Cause.TheVariants as causes
+use Rattle.toml_view.specs.declared.refusal.Refusal.{Refusal}
 use Rattle.toml_view.specs.declared.refusal.Stop.{Stop}
 use Rattle.toml_view.specs.declared.refusal.Stop.TheVariants as stops
 use Rattle.toml_view.specs.declared.document.ViewFault.{ViewFault}
 use Rattle.toml_view.specs.declared.document.ViewFault.TheVariants as views
 use Rattle.toml_view.specs.Causes.{cause_of}
+use Rattle.toml_view.specs.Answers.{Refuses as StopRefuses}
 use Rattle.project_file.specs.declared.fault.ProjectFault.{ProjectFault}
 use Rattle.project_file.specs.declared.fault.ProjectFault.TheVariants.{BadToml, Deep, BadShape, BadVersion, BadSpec, Memory}
 
@@ -18,6 +20,10 @@ cause_named (BadShape path) = Some (causes.BadShape path)
 cause_named (BadVersion path place) = Some (causes.BadVersion path place)
 cause_named (BadSpec path place) = Some (causes.BadSpec path place)
 cause_named Memory = None
+
+-- what the answer to a reading of a table's keys tells
+abbrev pub Gives : {T : Type 0} → Result T Stop → Result T Refusal → Type 0
+Gives answer reading = MatchResult answer (λ value. reading ≡ Ok value) (λ stop. StopRefuses stop reading)
 
 -- what a fault says of the reading; want of memory tells nothing
 abbrev pub Refuses : {T : Type 0} → Result T Cause → ProjectFault → Type 0

@@ -1,8 +1,8 @@
 -- Where a project says that a package comes from (Pkg, `[sources]`): a path, or an address with a revision and a folder.
-use Rattle.std.specs.Prelude.{ℕ, Bool, ◌||◌, if◌then◌else◌, List, [], ◌∷◌, codes, Option, Some, None, is_some, Result, Ok, Err}
-use Rattle.toml.specs.Data.{Data, Members, get_member, as_table}
+use Rattle.std.specs.Prelude.{ℕ, ◌||◌, if◌then◌else◌, List, [], ◌∷◌, codes, Option, Some, None, Result, Ok, Err}
+use Rattle.toml.specs.Data.{Data, Members, as_table}
 use Rattle.toml_view.specs.KeyOrder.{in_key_order, verdict}
-use Rattle.toml_view.specs.Reading.{shape, or_shape, chained, text_of, opt}
+use Rattle.toml_view.specs.Reading.{shape, or_shape, chained, text_of, has_key, opt}
 use Rattle.toml_view.specs.declared.refusal.Refusal.{Refusal}
 use Rattle.project_file.specs.declared.source.Source.{Source}
 use Rattle.project_file.specs.declared.source.Source.TheVariants.{Path, Url}
@@ -11,9 +11,6 @@ use Rattle.project_file.specs.declared.source.Source.TheVariants.{Path, Url}
 abbrev pub read_or : {T : Type 0} → T → Result T Refusal → T
 read_or other (Ok value) = value
 read_or other (Err refusal) = other
-
-abbrev pub has_key : List ℕ → Members → Bool
-has_key key members = is_some (get_member key members)
 
 -- a path counts where both are there
 abbrev pub source_from : Option (List ℕ) → Option (List ℕ) → Option (List ℕ) → Option (List ℕ) → Result Source Refusal

@@ -2,6 +2,7 @@
 #![tactic(auto)]
 
 mod fault;
+mod parts;
 mod project;
 mod putting;
 mod reading;
@@ -10,7 +11,6 @@ mod spec_text;
 mod tables;
 #[cfg(test)]
 mod tests;
-mod triggers;
 mod writes;
 
 pub use fault::ProjectFault;

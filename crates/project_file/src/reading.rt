@@ -4,19 +4,17 @@ ghost use Rattle.toml.specs.View.{table_view};
 ghost use Rattle.toml_view.specs.Document.{nesting, nesting_limit};
 ghost use Rattle.toml_view.specs.Answers.{HasPath, Refuses as StopRefuses};
 ghost use Rattle.project_file.specs.Answers.{Refuses};
-ghost use Rattle.project_file.specs.Chain.{project_chain};
+ghost use Rattle.project_file.specs.Chain.{project_chain, joined};
 ghost use Rattle.project_file.specs.Keys.{unnamed, is_named, names_none};
 ghost use Rattle.project_file.specs.Projects.{project_of, read_of};
 ghost use Rattle.toml_view.specs.Causes.{caused};
 ghost use Rattle.project_file.specs.Said.{said};
 
 use crate::fault::{ProjectFault, fault_of, unviewed};
+use crate::parts::{Back, Front, Middle, read_back, read_front, read_middle};
 use crate::project::Project;
-use crate::source::SourceReader;
-use crate::spec_text::SpecReader;
-use crate::triggers::TriggersReader;
 use std::alloc::Global;
-use toml_view::{NameReader, Stop, Table, UuidReader, VersionReader, opt, table_at, view};
+use toml_view::{Stop, Table, view};
 
 impl Project {
     /// The project of a file's bytes (Pkg, Project.toml). The keys `name`, `uuid`, `version`, `deps`, `weakdeps`,
@@ -54,37 +52,38 @@ fn of_table(alloc: Global, table: Table) -> Result<Project, ProjectFault>
 }
 
 /// The readings of the named keys, in the order of their bytes.
-#[tactic(auto, unfolding(crate::specs::Chain::project_chain, crate::specs::Said::said))]
+#[tactic(auto, unfolding(crate::specs::Chain::project_chain))]
 fn read_keys(alloc: Global, table: Table) -> Result<Project, Stop>
-    ensures ok { IfOk result (λ project. project_chain (table_view table) ≡ Ok (said project)) }
-    ensures err { IfErr result (λ stop. StopRefuses stop (project_chain (table_view table))) }
+    ensures told { MatchResult result (λ project. project_chain (table_view table) ≡ Ok (said project)) (λ stop. StopRefuses stop (project_chain (table_view table))) }
     ensures path { IfErr result HasPath }
     ensures plain { IfOk result (λ project. IsTrue (names_none (table_view project.rest))) }
     ensures nested { IfOk result (λ project. nesting (table_view project.rest) ≤ nesting (table_view table)) }
 {
-    let compat = table_at(alloc, SpecReader, &table, "compat")?.into_list();
-    let deps = table_at(alloc, UuidReader, &table, "deps")?.into_list();
-    let extensions = table_at(alloc, TriggersReader, &table, "extensions")?.into_list();
-    let extras = table_at(alloc, UuidReader, &table, "extras")?.into_list();
-    let manifest = opt(alloc, &NameReader, &table, "manifest")?;
-    let name = opt(alloc, &NameReader, &table, "name")?;
-    let sources = table_at(alloc, SourceReader, &table, "sources")?.into_list();
-    let uuid = opt(alloc, &UuidReader, &table, "uuid")?;
-    let version = opt(alloc, &VersionReader, &table, "version")?;
-    let weakdeps = table_at(alloc, UuidReader, &table, "weakdeps")?.into_list();
-    Ok(Project {
-        name,
-        uuid,
-        version,
-        deps,
-        weakdeps,
-        extensions,
-        compat,
-        extras,
-        sources,
-        manifest,
-        rest: without_named(table),
-    })
+    let front = read_front(alloc, &table)?;
+    let middle = read_middle(alloc, &table)?;
+    let back = read_back(alloc, &table)?;
+    Ok(whole(front, middle, back, without_named(table)))
+}
+
+/// The project of what its keys say, and of all others.
+#[tactic(auto, unfolding(crate::specs::Said::said))]
+fn whole(front: Front, middle: Middle, back: Back, rest: Table) -> Project
+    ensures said { said result ≡ joined front middle back (table_view rest) }
+    ensures rest { result.rest ≡ rest }
+{
+    Project {
+        name: middle.name,
+        uuid: back.uuid,
+        version: back.version,
+        deps: front.deps.into_list(),
+        weakdeps: back.weakdeps.into_list(),
+        extensions: front.extensions.into_list(),
+        compat: front.compat.into_list(),
+        extras: front.extras.into_list(),
+        sources: middle.sources.into_list(),
+        manifest: middle.manifest,
+        rest,
+    }
 }
 
 /// The table without the named keys.

@@ -1,14 +1,13 @@
 //! Where a package comes from.
-ghost use Rattle.std.specs.Prelude.{◌≡◌, Ok, IfOk, IfErr, option_map};
-ghost use Rattle.toml.specs.Data.{get_member};
-ghost use Rattle.toml.specs.View.{view, table_view};
-ghost use Rattle.project_file.specs.Places.{source_of, source_in, has_key, source_from};
+ghost use Rattle.std.specs.Prelude.{◌≡◌, Ok, IfOk, IfErr};
+ghost use Rattle.toml.specs.View.{table_view};
+ghost use Rattle.project_file.specs.Places.{source_of, source_in, source_from};
 ghost use Rattle.project_file.specs.Chain.{source_chain};
 ghost use Rattle.toml_view.specs.Answers.{Refuses};
 
 use pkg_world::Name;
 use std::alloc::Global;
-use toml_view::{NameReader, Reader, Stop, Table, Value, opt, other_shape};
+use toml_view::{NameReader, Reader, Stop, Table, Value, has_key, opt, other_shape};
 
 /// Where a project says that a package comes from (Pkg, `[sources]`).
 #[derive(Debug, Drop)]
@@ -40,30 +39,13 @@ impl Reader for SourceReader {
     }
 }
 
-/// The value at a key.
-fn member<'a>(table: &'a Table, key: &str) -> Option<&'a Value>
-    ensures { option_map (λ v. view v.now) result ≡ get_member key.now (table_view table.now) }
-{
-    table.get(key)
-}
-
-/// Whether a table has the key.
-fn has(table: &Table, key: &str) -> bool
-    ensures { result ≡ has_key key.now (table_view table.now) }
-{
-    match member(table, key) {
-        Some(_) => true,
-        None => false,
-    }
-}
-
 /// The source of a table that has a path or an address; without either the table is refused itself.
 #[tactic(auto, using(crate::proofs::Orders::source_in_order))]
 fn read_source(alloc: Global, table: &Table) -> Result<Source, Stop>
     ensures ok { IfOk result (λ source. source_in (table_view table.now) ≡ Ok source) }
     ensures err { IfErr result (λ stop. Refuses stop (source_in (table_view table.now))) }
 {
-    if has(table, "path") || has(table, "url") {
+    if has_key(table, "path") || has_key(table, "url") {
         placed_source(alloc, table)
     } else {
         Err(other_shape())

@@ -1,9 +1,10 @@
 //! The table of a project.
-ghost use Rattle.std.specs.Prelude.{◌≡◌, ◌≤◌, Ok, IfOk, IsTrue};
+ghost use Rattle.std.specs.Prelude.{◌≡◌, ◌≤◌, Ok, IfOk, OnOk, IsTrue};
 ghost use Rattle.toml.specs.View.{table_view};
 ghost use Rattle.toml_view.specs.Document.{nesting, nesting_limit};
 ghost use Rattle.project_file.specs.Keys.{names_none};
 ghost use Rattle.project_file.specs.Projects.{project_of};
+ghost use Rattle.project_file.specs.Putting.{PutsBack, PutsMiddle, PutsFront};
 ghost use Rattle.project_file.specs.Said.{said};
 
 use crate::project::Project;
@@ -23,17 +24,41 @@ impl Project {
         ensures nested { IfOk result (λ table. nesting (table_view table) ≤ nesting_limit) }
     {
         let mut table = copied(&self.rest)?;
-        put_each(alloc, &mut table, "weakdeps", self.weakdeps.items())?;
-        put_one(alloc, &mut table, "version", &self.version)?;
-        put_one(alloc, &mut table, "uuid", &self.uuid)?;
-        put_each(alloc, &mut table, "sources", self.sources.items())?;
-        put_one(alloc, &mut table, "name", &self.name)?;
-        put_one(alloc, &mut table, "manifest", &self.manifest)?;
-        put_each(alloc, &mut table, "extras", self.extras.items())?;
-        put_each(alloc, &mut table, "extensions", self.extensions.items())?;
-        put_each(alloc, &mut table, "deps", self.deps.items())?;
-        put_each(alloc, &mut table, "compat", self.compat.items())?;
+        self.put_back(alloc, &mut table)?;
+        self.put_middle(alloc, &mut table)?;
+        self.put_front(alloc, &mut table)?;
         Ok(table)
+    }
+
+    /// Puts what stands at the keys from `uuid` on, the last one first: reading then undoes one put after the other.
+    fn put_back(&self, alloc: Global, table: &mut Table) -> Result<(), AllocError>
+        ensures { OnOk result (PutsBack self.now.uuid self.now.version self.now.weakdeps.items (table_view table.old) (table_view table.new)) }
+    {
+        put_each(alloc, table, "weakdeps", self.weakdeps.items())?;
+        put_one(alloc, table, "version", &self.version)?;
+        put_one(alloc, table, "uuid", &self.uuid)?;
+        Ok(())
+    }
+
+    /// Puts what stands at the keys from `manifest` to `sources`.
+    fn put_middle(&self, alloc: Global, table: &mut Table) -> Result<(), AllocError>
+        ensures { OnOk result (PutsMiddle self.now.manifest self.now.name self.now.sources.items (table_view table.old) (table_view table.new)) }
+    {
+        put_each(alloc, table, "sources", self.sources.items())?;
+        put_one(alloc, table, "name", &self.name)?;
+        put_one(alloc, table, "manifest", &self.manifest)?;
+        Ok(())
+    }
+
+    /// Puts what stands at the keys before `manifest`.
+    fn put_front(&self, alloc: Global, table: &mut Table) -> Result<(), AllocError>
+        ensures { OnOk result (PutsFront self.now.compat.items self.now.deps.items self.now.extensions.items self.now.extras.items (table_view table.old) (table_view table.new)) }
+    {
+        put_each(alloc, table, "extras", self.extras.items())?;
+        put_each(alloc, table, "extensions", self.extensions.items())?;
+        put_each(alloc, table, "deps", self.deps.items())?;
+        put_each(alloc, table, "compat", self.compat.items())?;
+        Ok(())
     }
 }
 
