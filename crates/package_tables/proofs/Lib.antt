@@ -1,4 +1,4 @@
 mod Marks
 mod NamesInOrder
 mod Twice
-mod Walks
+pub mod Walks

@@ -18,8 +18,9 @@ use Rattle.toml_view.specs.Answers.{Refuses}
 use Rattle.toml_view.specs.Reading.{at, or_shape, or_version, chained, mapped}
 use Rattle.toml_view.specs.declared.refusal.Refusal.{Refusal}
 use Rattle.toml_view.specs.declared.refusal.Stop.{Stop}
+use Rattle.pkg_world.specs.Each.{onto}
 use Rattle.package_tables.specs.Row.{put_to}
-use Rattle.package_tables.specs.Sections.{onto, marked, all_marked, mark_of, new_version}
+use Rattle.package_tables.specs.Sections.{marked, all_marked, mark_of, new_version}
 use Rattle.package_tables.specs.Versions.{fresh, marked_after}
 use Rattle.package_tables.proofs.Walks.{TomlEntry, onto_next, refuses_whole}
 use Rattle.package_tables.specs.declared.versions.Mark.{Mark}

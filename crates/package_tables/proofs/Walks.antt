@@ -8,7 +8,7 @@ use Rattle.toml_view.specs.Reading.{at, chained, mapped, each}
 use Rattle.toml_view.specs.declared.refusal.Refusal.{Refusal}
 use Rattle.toml_view.specs.declared.refusal.Stop.{Stop}
 use Rattle.toml_view.specs.declared.refusal.Stop.TheVariants.{Refused, Memory}
-use Rattle.package_tables.specs.Sections.{onto}
+use Rattle.pkg_world.specs.Each.{onto}
 
 abbrev pub TomlEntry : Type 0
 TomlEntry = String Global × Value
@@ -17,17 +17,6 @@ TomlEntry = String Global × Value
 pub onto_next : {T : Type 0} (done : List T) (v : T) (rest : Result (List T) Refusal) → onto done (mapped (λ vs. v ∷ vs) rest) ≡ onto (done ++ v ∷ []) rest
 onto_next done v (Ok rest) = ap Ok (sym (append_assoc done (v ∷ []) rest))
 onto_next done v (Err refusal) = refl
-
-pub onto_none : {T : Type 0} (reading : Result (List T) Refusal) → onto [] reading ≡ reading
-onto_none (Ok rest) = refl
-onto_none (Err refusal) = refl
-
--- the items of one section more
-pub onto_all : {T : Type 0} (old new : List T) (first rest : Result (List T) Refusal) → onto old first ≡ Ok new
-    → onto old (chained (λ items. mapped (λ more. items ++ more) rest) first) ≡ onto new rest
-onto_all old new (Ok items) (Ok rest) e = let same : old ++ items ≡ new = cc in rw (← same) (ap Ok (sym (append_assoc old items rest)))
-onto_all old new (Ok items) (Err refusal) e = refl
-onto_all old new (Err refusal) rest e = cc
 
 mapped_next : {S T : Type 0} (f : S → T) (done : List T) (v : S) (rest : Result (List S) Refusal) → onto done (mapped (map f) (mapped (λ vs. v ∷ vs) rest)) ≡ onto (done ++ f v ∷ []) (mapped (map f) rest)
 mapped_next f done v (Ok rest) = ap Ok (sym (append_assoc done (f v ∷ []) (map f rest)))

@@ -15,6 +15,7 @@ use Rattle.jl_versions.specs.declared.version.Version.{Version}
 use Rattle.compat_spec.specs.Listing.{Listing}
 use Rattle.compat_spec.specs.Ranges.{Bounds, Ranged}
 use Rattle.compat_spec.specs.Meant.{range_meant}
+use Rattle.pkg_world.specs.Each.{onto}
 use Rattle.toml_view.specs.Reading.{at, or_shape, or_version, chained, mapped, text_of, uuid_of, tree_id_of, flag_of, texts_of, table_of, opt, need}
 use Rattle.toml_view.specs.Answers.{Refuses}
 use Rattle.toml_view.specs.declared.refusal.Flaw.TheVariants.{Spec}
@@ -106,11 +107,6 @@ abbrev pub package_of : List ℕ → List ℕ → Members → Result (Unit {0}) 
 package_of name uuid members = chained (λ _. need (that_uuid uuid) (codes "uuid") members) (need (that_name name) (codes "name") members)
 
 -- ---- answers
-
--- a reading of the rest, behind what was read
-abbrev pub onto : {T : Type 0} → List T → Result (List T) Refusal → Result (List T) Refusal
-onto done (Ok rest) = Ok (done ++ rest)
-onto done (Err refusal) = Err refusal
 
 -- what was read stands behind the items, or the reading's refusal
 abbrev pub Pushes : {T : Type 0} → List T → List T → Result (List T) Refusal → Result (Unit {0}) Stop → Type 0

@@ -72,11 +72,7 @@ fn held<'a, T: Duplicate + Drop>(
 }
 
 /// Puts a name; one that is there takes the value.
-fn put<'a, T: Drop>(
-    names: &mut NameMap<'a, T>,
-    name: &'a Name,
-    value: T,
-) -> Result<(), AllocError>
+fn put<'a, T: Drop>(names: &mut NameMap<'a, T>, name: &'a Name, value: T) -> Result<(), AllocError>
     ensures { OnOk result (names.new.entries ≡ spec.put_to spec.by_bytes names.old.entries ((name.now, value) ∷ [])) }
 {
     names.insert(NameRef::of(name), value)?;
@@ -182,11 +178,7 @@ fn put_if_counting<'a>(
 }
 
 /// Whether compat on that name counts: it is `julia`, or the name of a dependency.
-fn counts<'a>(
-    key: &NameRef<'a>,
-    strong: &NameMap<'a, Uuid>,
-    weak: &NameMap<'a, Uuid>,
-) -> bool
+fn counts<'a>(key: &NameRef<'a>, strong: &NameMap<'a, Uuid>, weak: &NameMap<'a, Uuid>) -> bool
     ensures { result ≡ spec.counts strong.now.entries weak.now.entries key.now }
 {
     key.as_str() == "julia" || is_dependency(key, strong, weak)

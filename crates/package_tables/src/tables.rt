@@ -32,11 +32,7 @@ pub fn version_rows(alloc: Global, table: &Table) -> Result<VersionRows, Halt>
 /// Refused is the first refusal in key order: BadSpec of a heading that is no range, and BadShape of a value that is no
 /// identifier. After these it is Clash, where two sections that hold a listed version give one name different values (an
 /// own rule). The other error is want of memory.
-pub fn id_entries(
-    alloc: Global,
-    versions: &[VersionRow],
-    table: &Table,
-) -> Result<IdEntries, Halt>
+pub fn id_entries(alloc: Global, versions: &[VersionRow], table: &Table) -> Result<IdEntries, Halt>
     ensures { spec.GivesList (spec.id_entries versions.now (table_view table.now)) result }
 {
     match entries_of(alloc, &UuidReader, versions, table) {

@@ -16,7 +16,7 @@ use pkg_world::{Listed, TreeId};
 use std::alloc::{AllocError, Global};
 use std::collections::BTreeMap;
 use toml_view::{
-    Flaw, FlagReader, Refusal, Stop, Table, TreeReader, Value, need, opt, other_shape, stop_at,
+    FlagReader, Flaw, Refusal, Stop, Table, TreeReader, Value, need, opt, other_shape, stop_at,
 };
 
 /// What a table says of a listed version: its tree, and whether it is yanked.
