@@ -1,6 +1,5 @@
 -- Going over depots and names: the paths so far, and those of the rest.
-use Rattle.std.proofs.Common.{◌≡◌, Result, OnOk, ℕ, suc, ◌+◌, ◌<◌, arith, get_or, length, Bool, List, [], ◌∷◌, ◌++◌, map, filter, flat_map, drop, Option, Some, None, IfSome, sym, ap, ◌∙◌, append_assoc}
-use Rattle.std.proofs.Math.Seq.{drop-cons}
+use Rattle.std.proofs.Common.{◌≡◌, Result, OnOk, ℕ, Bool, List, [], ◌∷◌, ◌++◌, map, filter, flat_map, Option, Some, None, IfSome, sym, ap, ◌∙◌, append_assoc}
 use Rattle.std.proofs.lemmas.List.{map-append}
 use Rattle.std.proofs.lemmas.List.Elements.{filter-append}
 use Rattle.pkg_world.specs.Path.{Path, is_plain}
@@ -43,12 +42,6 @@ pub names-next : (files : Option Files) (folder : Path) (name : List ℕ) (names
 names-next None folder name names rest more first old new there before added = before
 names-next (Some all) folder name names rest more first old new there before added =
     (kept-next (is_registry all) folder name names rest more _ _ _ there before.0 added.0, kept-next (is_packed all) folder name names rest more _ _ _ there before.1 added.1)
-
--- what a loop has before it: the next item, and the rest
-pub rest-step : {A : Type 0} (items : List A) (index : ℕ) (item : A) → index < length items → item ≡ get_or items index item → drop index items ≡ item ∷ drop (index + 1) items
-rest-step items index item within there =
-    let up : suc index ≡ index + 1 = omega arith in
-    drop-cons items index item within ∙ ap (λ x. x ∷ drop (suc index) items) (sym there) ∙ ap (λ n. item ∷ drop n items) up
 
 depots-append : (test : Path → Bool) (files : Files) (depot : Path) (old whole new : List Path) (rest more : List Path) → rest ≡ depot ∷ more
     → old ++ flat_map (λ d. filter test (in_folder files (registries_of d))) rest ≡ whole → new ≡ old ++ filter test (in_folder files (registries_of depot))

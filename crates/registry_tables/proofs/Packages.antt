@@ -1,7 +1,6 @@
 -- Going over a table of packages: what was read so far, and the rest.
 use Rattle.std.proofs.Common.{◌≡◌, ℕ, Bool, List, [], ◌∷◌, ◌++◌, Option, Some, None, IfSome, subst, Result, Ok, Err, String, Global, string_bytes, refl, sym, ap, ◌∙◌, append_assoc}
 use Rattle.toml.specs.View.{view, members_view}
-use Rattle.toml.specs.declared.value.Value.{Value}
 use Rattle.toml_view.specs.declared.refusal.Refusal.{Refusal}
 use Rattle.toml_view.specs.declared.refusal.Stop.{Stop}
 use Rattle.toml_view.specs.declared.refusal.Stop.TheVariants.{Refused, Memory as StopMemory}
@@ -11,6 +10,8 @@ use Rattle.toml_view.specs.Reading.{at, chained, mapped}
 use Rattle.toml.specs.Data.{Members}
 use Rattle.pkg_world.specs.Path.{Path}
 use Rattle.pkg_world.specs.Tree.{Files}
+use Rattle.pkg_world.specs.Each.{onto}
+use Rattle.package_tables.proofs.Walks.{TomlEntry, onto_next, refuses_whole}
 use Rattle.registry_tables.specs.Answers.{Read, then_read, at_file, needed_table}
 use Rattle.registry_tables.specs.Registries.{registry_file}
 use Rattle.registry_tables.specs.declared.fault.RegFault.{RegFault}
@@ -20,36 +21,20 @@ use Rattle.registry_tables.specs.declared.seen.Seen.{Seen}
 use Rattle.registry_tables.specs.Registry.{is_among, package_of, packages_of_members, registry_of, registry_in, Registered, LoadsRegistry}
 use Rattle.registry_tables.specs.declared.package_list.Package.{Package}
 
-abbrev pub Entry : Type 0
-Entry = String Global × Value
-
--- a reading of the rest, behind what was read
-abbrev pub onto : {T : Type 0} → List T → Result (List T) Refusal → Result (List T) Refusal
-onto done (Ok rest) = Ok (done ++ rest)
-onto done (Err refusal) = Err refusal
-
-pub onto_next : {T : Type 0} (done : List T) (v : T) (rest : Result (List T) Refusal) → onto done (mapped (λ vs. v ∷ vs) rest) ≡ onto (done ++ v ∷ []) rest
-onto_next done v (Ok rest) = ap Ok (sym (append_assoc done (v ∷ []) rest))
-onto_next done v (Err refusal) = refl
-
-pub onto_none : {T : Type 0} (reading : Result (List T) Refusal) → onto [] reading ≡ reading
-onto_none (Ok rest) = refl
-onto_none (Err refusal) = refl
-
 -- the identifiers of the earlier keys, with one more
 pub among-next : (earlier : List (List ℕ)) (id : List ℕ) (old new : Seen) → ((other : List ℕ) → has old other ≡ is_among earlier other) → Adds id old new
     → (other : List ℕ) → has new other ≡ is_among (id ∷ earlier) other
 among-next earlier id old new same added other = rw (added other, same other)
 
 -- what is read at a key
-pub at-earlier : (folder : Path) (earlier : List (List ℕ)) (seen : List ℕ → Bool) (e : Entry) (found : Package) → ((other : List ℕ) → seen other ≡ is_among earlier other)
+pub at-earlier : (folder : Path) (earlier : List (List ℕ)) (seen : List ℕ → Bool) (e : TomlEntry) (found : Package) → ((other : List ℕ) → seen other ≡ is_among earlier other)
     → at (string_bytes e.0) (package_of folder seen (string_bytes e.0) (view e.1)) ≡ Ok found → at (string_bytes e.0) (package_of folder (is_among earlier) (string_bytes e.0) (view e.1)) ≡ Ok found
 at-earlier folder earlier seen e found same there =
     let tests : seen ≡ is_among earlier = λ i other. same other i in
     ap (λ t. at (string_bytes e.0) (package_of folder t (string_bytes e.0) (view e.1))) (sym tests) ∙ there
 
 -- one package more
-pub packages-next : (folder : Path) (earlier : List (List ℕ)) (done : List Package) (found : Package) (entries rest : List Entry) (e : Entry)
+pub packages-next : (folder : Path) (earlier : List (List ℕ)) (done : List Package) (found : Package) (entries rest : List TomlEntry) (e : TomlEntry)
     (whole : Result (List Package) Refusal) → entries ≡ e ∷ rest → at (string_bytes e.0) (package_of folder (is_among earlier) (string_bytes e.0) (view e.1)) ≡ Ok found
     → whole ≡ onto done (packages_of_members folder earlier (members_view entries))
     → whole ≡ onto (done ++ found ∷ []) (packages_of_members folder (found.uuid ∷ earlier) (members_view rest))
@@ -58,20 +43,12 @@ packages-next folder earlier done found entries rest e whole iter there same =
     ∙ ap (λ r. onto done (chained (λ p. mapped (λ ps. p ∷ ps) (packages_of_members folder (p.uuid ∷ earlier) (members_view rest))) r)) there
     ∙ onto_next done found (packages_of_members folder (found.uuid ∷ earlier) (members_view rest))
 
-refused-on : {T : Type 0} (stop : Stop) (done : List T) (reading : Result (List T) Refusal) → StopRefuses stop reading → StopRefuses stop (onto done reading)
-refused-on (Refused refusal) done reading refused = ap (onto done) refused
-refused-on StopMemory done reading refused = tt
-
-refused-chained : {S T : Type 0} (stop : Stop) (next : S → Result T Refusal) (reading : Result S Refusal) → StopRefuses stop reading → StopRefuses stop (chained next reading)
-refused-chained (Refused refusal) next reading refused = ap (chained next) refused
-refused-chained StopMemory next reading refused = tt
-
 refused-as : {T : Type 0} (stop : Stop) (one other : Result T Refusal) → other ≡ one → StopRefuses stop one → StopRefuses stop other
 refused-as (Refused refusal) one other same refused = same ∙ refused
 refused-as StopMemory one other same refused = tt
 
 -- a package that is refused
-pub refused-next : (stop : Stop) (folder : Path) (earlier : List (List ℕ)) (seen : List ℕ → Bool) (done : List Package) (entries rest : List Entry) (e : Entry)
+pub refused-next : (stop : Stop) (folder : Path) (earlier : List (List ℕ)) (seen : List ℕ → Bool) (done : List Package) (entries rest : List TomlEntry) (e : TomlEntry)
     (whole : Result (List Package) Refusal) → entries ≡ e ∷ rest → ((other : List ℕ) → seen other ≡ is_among earlier other)
     → StopRefuses stop (at (string_bytes e.0) (package_of folder seen (string_bytes e.0) (view e.1)))
     → whole ≡ onto done (packages_of_members folder earlier (members_view entries)) → StopRefuses stop whole
@@ -79,8 +56,9 @@ refused-next stop folder earlier seen done entries rest e whole iter same refuse
     let tests : is_among earlier ≡ seen = λ i other. sym (same other) i in
     let here = refused-as stop _ (at (string_bytes e.0) (package_of folder (is_among earlier) (string_bytes e.0) (view e.1)))
     (ap (λ t. at (string_bytes e.0) (package_of folder t (string_bytes e.0) (view e.1))) tests) refused in
-    refused-as stop _ whole (all ∙ ap (λ t. onto done (packages_of_members folder earlier (members_view t))) iter)
-    (refused-on stop done _ (refused-chained stop _ _ here))
+    refuses_whole stop (at (string_bytes e.0) (package_of folder (is_among earlier) (string_bytes e.0) (view e.1)))
+    (λ p. mapped (λ ps. p ∷ ps) (packages_of_members folder (p.uuid ∷ earlier) (members_view rest))) done whole here
+    (all ∙ ap (λ t. onto done (packages_of_members folder earlier (members_view t))) iter)
 
 -- the registry of a folder's file
 pub registry-loads : (files : Option Files) (folder file : Path) (known : Members) (answer : Result Registry RegFault) → file ≡ registry_file folder

@@ -7,11 +7,8 @@ use Rattle.toml.specs.View.{table_view}
 use Rattle.toml.specs.declared.value.Value.{Value}
 use Rattle.toml_view.specs.Document.{viewed}
 use Rattle.toml_view.specs.Causes.{of_view}
-use Rattle.toml_view.specs.declared.refusal.Refusal.{Refusal}
-use Rattle.toml_view.specs.declared.refusal.Stop.{Stop}
 use Rattle.toml_view.specs.declared.halt.Halt.{Halt}
 use Rattle.toml_view.specs.declared.halt.Halt.TheVariants.{Refused}
-use Rattle.toml_view.specs.Answers.{Refuses as StopRefuses}
 use Rattle.pkg_world.specs.Outside.{Rose}
 use Rattle.pkg_world.specs.Path.{Path}
 use Rattle.pkg_world.specs.Tree.{Files, holds, file_bytes}
@@ -84,10 +81,6 @@ seen_table (Some table) = Some (table_view table)
 
 abbrev pub LoadsOption : Read (Option Members) → Result (Option (BTreeMap (String Global) Value)) RegFault → Type 0
 LoadsOption reading answer = MatchResult answer (λ table. reading ≡ Ok (seen_table table)) (Refuses reading)
-
--- what a stopped reading of a table tells
-abbrev pub Gives : {T : Type 0} → Result T Stop → Result T Refusal → Type 0
-Gives answer reading = MatchResult answer (λ value. reading ≡ Ok value) (λ stop. StopRefuses stop reading)
 
 -- the refusal of a file whose bytes' reading halted; copying the path may want memory
 abbrev pub IsRefusedAt : Path → Halt → RegFault → Type 0

@@ -3,8 +3,8 @@ pub mod Registries
 pub mod Identifiers
 pub mod Registry
 pub mod RegistryKeys
-pub mod Clash
-pub mod Row
 pub mod Rows
-pub mod Sections
-pub mod Versions
+pub use Rattle.package_tables.specs.Clash
+pub use Rattle.package_tables.specs.Row
+pub use Rattle.package_tables.specs.Sections
+pub use Rattle.package_tables.specs.Tables

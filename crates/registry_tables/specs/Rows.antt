@@ -3,26 +3,24 @@
 --     rows_in files registry uuid     the tables of a package; None where the registry doesn't list it
 use Rattle.std.specs.Prelude.{◌≡◌, ℕ, List, [], ◌∷◌, ◌++◌, map, find, codes, Option, Some, None, Result, Ok, Err, MatchResult, option_map}
 use Rattle.std.specs.Str.{bytes_eq}
-use Rattle.toml.specs.Data.{Data, Members}
-use Rattle.toml_view.specs.Reading.{uuid_of}
+use Rattle.toml.specs.Data.{Members}
 use Rattle.toml_view.specs.Causes.{caused}
-use Rattle.toml_view.specs.declared.refusal.Refusal.{Refusal}
 use Rattle.pkg_world.specs.declared.cause.Cause.{Cause}
 use Rattle.pkg_world.specs.Path.{Path, joined}
 use Rattle.pkg_world.specs.Tree.{Files}
 use Rattle.compat_spec.specs.Ranges.{Ranged}
 use Rattle.compat_spec.specs.Listing.{Listing as Room}
 use Rattle.pkg_world.specs.Listing.{Listing}
-use Rattle.registry_tables.specs.Answers.{Read, Refuses, missing, then_read, at_file, needed_table, optional_table, bad}
-use Rattle.registry_tables.specs.Clash.{clash_in, clash_cause, same_id, id_text, same_ranges, ranges_text}
-use Rattle.registry_tables.specs.Sections.{sections_of, ranges_of, versions_of, package_of, bare}
+use Rattle.registry_tables.specs.Answers.{Read, Refuses, missing, then_read, at_file, needed_table, optional_table}
+use Rattle.package_tables.specs.Sections.{package_of, bare}
+use Rattle.package_tables.specs.Tables.{version_rows, id_entries, range_entries}
 use Rattle.registry_tables.specs.declared.package_list.Package.{Package}
 use Rattle.registry_tables.specs.declared.package_list.Registry.{Registry}
-use Rattle.registry_tables.specs.declared.package_rows.Entry.{Entry}
-use Rattle.registry_tables.specs.declared.package_rows.VersionRow.{VersionRow}
-use Rattle.registry_tables.specs.declared.package_rows.PackageRows.{PackageRows}
+use Rattle.package_tables.specs.declared.package_rows.Entry.{Entry}
+use Rattle.package_tables.specs.declared.package_rows.VersionRow.{VersionRow}
+use Rattle.package_tables.specs.declared.package_rows.PackageRows.{PackageRows}
 use Rattle.registry_tables.specs.declared.fault.RegFault.{RegFault}
-use Rattle.registry_tables.specs.declared.reading.Tables as code
+use Rattle.registry_tables.specs.declared.section_files.Tables as code
 
 -- the entries of a table of dependencies, and of the compat table beside it
 pub record Tables : Type 0 where
@@ -45,35 +43,23 @@ package_in files wanted folder = package_at files wanted (folder ++ codes "Packa
 
 -- the file of the versions, which has to be there
 unfoldable pub versions_at : Files → Path → Read (List VersionRow)
-versions_at files file = then_read (λ members. at_file file (caused (versions_of members))) (needed_table files file)
+versions_at files file = then_read (λ members. at_file file (version_rows members)) (needed_table files file)
 
 abbrev pub versions_in : Files → Path → Read (List VersionRow)
 versions_in files folder = versions_at files (folder ++ codes "Versions.toml" ∷ [])
 
--- what clashes in a table of dependencies, and in one of compat
-abbrev pub id_clash : List VersionRow → List (Entry (List ℕ)) → Option Cause
-id_clash versions entries = option_map (clash_cause id_text) (clash_in same_id versions entries)
+-- the entries of a table with sections; where the file is absent there are none
+abbrev pub entries_at : {T : Type 0} → (Members → Result (List (Entry T)) Cause) → Path → Option Members → Read (List (Entry T))
+entries_at entries file None = Ok []
+entries_at entries file (Some members) = at_file file (entries members)
 
-abbrev pub range_clash : List VersionRow → List (Entry (List Ranged)) → Option Cause
-range_clash versions entries = option_map (clash_cause ranges_text) (clash_in same_ranges versions entries)
-
--- the entries, unless two of them clash
-abbrev pub unless_clash : {T : Type 0} → Path → Option Cause → List (Entry T) → Read (List (Entry T))
-unless_clash file None entries = Ok entries
-unless_clash file (Some cause) entries = Err (bad file cause)
-
--- a table with sections; a clash comes after its other refusals, and where the file is absent there are no entries
-abbrev pub sections_at : {T : Type 0} → (Data → Result T Refusal) → (List (Entry T) → Option Cause) → Path → Option Members → Read (List (Entry T))
-sections_at read clash file None = Ok []
-sections_at read clash file (Some members) = then_read (λ entries. unless_clash file (clash entries) entries) (at_file file (caused (sections_of read members)))
-
-abbrev pub sections_in : {T : Type 0} → (Data → Result T Refusal) → (List (Entry T) → Option Cause) → Files → Path → Read (List (Entry T))
-sections_in read clash files file = then_read (sections_at read clash file) (optional_table files file)
+abbrev pub entries_in : {T : Type 0} → (Members → Result (List (Entry T)) Cause) → Files → Path → Read (List (Entry T))
+entries_in entries files file = then_read (entries_at entries file) (optional_table files file)
 
 unfoldable pub tables_in : Files → Path → List VersionRow → List ℕ → List ℕ → Read Tables
 tables_in files folder versions deps_name compat_name =
-    then_read (λ deps. then_read (λ compat. Ok (record { deps = deps; compat = compat })) (sections_in ranges_of (range_clash versions) files (folder ++ compat_name ∷ [])))
-    (sections_in uuid_of (id_clash versions) files (folder ++ deps_name ∷ []))
+    then_read (λ deps. then_read (λ compat. Ok (record { deps = deps; compat = compat })) (entries_in (range_entries versions) files (folder ++ compat_name ∷ [])))
+    (entries_in (id_entries versions) files (folder ++ deps_name ∷ []))
 
 abbrev pub strong_in : Files → Path → List VersionRow → Read Tables
 strong_in files folder versions = tables_in files folder versions (codes "Deps.toml") (codes "Compat.toml")

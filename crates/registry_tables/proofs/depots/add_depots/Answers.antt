@@ -1,5 +1,6 @@
 use Rattle.std.proofs.Common.{◌∙◌, arith}
-use Rattle.registry_tables.proofs.Adding.{rest-step, depots-next}
+use Rattle.pkg_world.proofs.Each.{rest-step}
+use Rattle.registry_tables.proofs.Adding.{depots-next}
 use Rattle.registry_tables.proofs.depots.add_depots.Goals as goal
 
 pub depots-preserved : goal.depots-preserved

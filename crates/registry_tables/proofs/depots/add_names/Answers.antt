@@ -1,5 +1,6 @@
 use Rattle.std.proofs.Common.{◌∙◌, arith}
-use Rattle.registry_tables.proofs.Adding.{rest-step, names-next}
+use Rattle.pkg_world.proofs.Each.{rest-step}
+use Rattle.registry_tables.proofs.Adding.{names-next}
 use Rattle.registry_tables.proofs.depots.add_names.Goals as goal
 
 pub names-preserved : goal.names-preserved

@@ -1,8 +1,8 @@
 use Rattle.std.proofs.Common.{◌≡◌, ℕ, [], List}
 use Rattle.toml.specs.View.{members_view}
+use Rattle.pkg_world.specs.Each.{onto}
 use Rattle.registry_tables.specs.Registry.{is_among, packages_of_members}
 use Rattle.registry_tables.specs.Identifiers.{has}
-use Rattle.registry_tables.proofs.Packages.{onto}
 use Rattle.registry_tables.proofs.registry.read_packages.Given as goal
 
 abbrev pub invariant-members : goal.invariant-members

@@ -1,0 +1,4 @@
+mod Marks
+mod NamesInOrder
+mod Twice
+pub mod Walks

@@ -1,0 +1,5 @@
+pub mod Clash
+pub mod Row
+pub mod Sections
+pub mod Tables
+pub mod Versions

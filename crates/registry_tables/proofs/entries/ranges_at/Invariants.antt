@@ -1,7 +1,0 @@
--- the ranges so far, and the texts to come
-use Rattle.std.proofs.Common.{◌≡◌, drop}
-use Rattle.registry_tables.specs.Sections as spec
-use Rattle.registry_tables.proofs.entries.ranges_at.Given as goal
-
-abbrev pub invariant-loop-text : goal.invariant-loop-text
-invariant-loop-text l = spec.ranges_at l.texts ≡ spec.onto l.ranges (spec.ranges_at (drop l.text-index l.texts))

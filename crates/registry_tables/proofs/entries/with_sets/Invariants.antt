@@ -1,7 +1,0 @@
--- the entries so far
-use Rattle.std.proofs.Common.{◌≡◌, map}
-use Rattle.registry_tables.specs.Sections as spec
-use Rattle.registry_tables.proofs.entries.with_sets.Given as goal
-
-abbrev pub invariant-loop-entry : goal.invariant-loop-entry
-invariant-loop-entry l = map spec.bare l.list.items ≡ l.yielded

@@ -1,7 +1,0 @@
--- the entries so far are grouped, and the rest is to be joined
-use Rattle.std.proofs.Common.{◌≡◌, drop, fold}
-use Rattle.registry_tables.specs.Clash as spec
-use Rattle.registry_tables.proofs.groups.groups.Given as goal
-
-abbrev pub invariant-loop-entry : goal.invariant-loop-entry
-invariant-loop-entry g l = spec.grouped l.entries ≡ fold spec.joining l.grouped.entries (drop l.entry-index l.entries)
