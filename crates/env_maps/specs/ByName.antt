@@ -2,12 +2,12 @@
 use Rattle.std.specs.Prelude.{ℕ, Bool, false, ◌||◌, if◌then◌else◌, List, [], ◌∷◌, Option, Some, None, Result, Ok, Err}
 use Rattle.std.specs.Option.{option_and_then}
 use Rattle.std.specs.Str.{bytes_eq}
-use Rattle.env_maps.specs.Files.{Read, then_file}
-use Rattle.env_maps.specs.Each.{read_each}
+use Rattle.pkg_world.specs.Each.{then_ok, read_each}
+use Rattle.project_places.specs.Files.{Read}
 
 -- what a reading gives for a name, beside the name
 abbrev pub with_name : {T : Type 0} → (List ℕ → Read T) → List ℕ → Read (List (List ℕ × T))
-with_name read name = then_file (read name) (λ value. Ok ((name, value) ∷ []))
+with_name read name = then_ok (read name) (λ value. Ok ((name, value) ∷ []))
 
 -- what a reading gives for each of these names
 abbrev pub by_name : {T : Type 0} → (List ℕ → Read T) → List (List ℕ) → Read (List (List ℕ × T))

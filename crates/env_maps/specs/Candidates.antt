@@ -1,20 +1,20 @@
 -- Package folders (Julia manual, Code Loading; the form of a bare file, and the identifiers that are made up, are ours).
-use Rattle.std.specs.Prelude.{ℕ, Bool, true, false, if◌then◌else◌, List, [], ◌∷◌, ◌++◌, take, codes, Option, Some, None, option_map, Result, Ok, Err}
+use Rattle.std.specs.Prelude.{ℕ, Bool, if◌then◌else◌, List, [], ◌∷◌, ◌++◌, take, codes, Option, Some, None, is_none, option_map, Result, Ok, Err}
 use Rattle.std.specs.Option.{option_and_then}
-use Rattle.std.specs.Str.{bytes_eq}
 use Rattle.sha1.specs.Sha1.{sha1}
 use Rattle.uuid.specs.Parts.{with_version, with_variant}
 use Rattle.uuid.specs.declared.Version.TheVariants.{Sha1}
 use Rattle.uuid.specs.declared.Variant.TheVariants.{RFC4122}
+use Rattle.pkg_world.specs.Each.{then_ok}
 use Rattle.pkg_world.specs.Path.{Path, joined, path_text}
 use Rattle.pkg_world.specs.Tree.{Files, holds, is_file}
 use Rattle.project_file.specs.Said as project
 use Rattle.env_maps.specs.declared.id.Id.{Id}
 use Rattle.env_maps.specs.declared.spot.Spot.{Spot}
-use Rattle.env_maps.specs.Active.{file_in, or_next}
+use Rattle.project_places.specs.Active.{file_in, or_next}
 use Rattle.env_maps.specs.ByName.{by_name, given}
-use Rattle.env_maps.specs.Files.{Read, at_file, then_file, project_in}
-use Rattle.env_maps.specs.Maps.{source_text}
+use Rattle.project_places.specs.Files.{Read, at_file, project_in}
+use Rattle.env_maps.specs.Maps.{same_uuid, source_text}
 
 -- an entry that is a file, with the folder whose project file belongs to it
 abbrev pub spot_if : Files → Option Path → Path → Option Spot
@@ -58,7 +58,7 @@ candidate_of entry file None = record { entry = entry; uuid = None; deps = None 
 candidate_of entry file (Some said) = record { entry = entry; uuid = Some (uuid_or_made file said.uuid); deps = Some said.deps }
 
 abbrev pub candidate_with : Files → Path → Path → Read Candidate
-candidate_with files entry file = then_file (at_file file (project_in (holds file files))) (λ said. Ok (candidate_of entry file said))
+candidate_with files entry file = then_ok (at_file file (project_in (holds file files))) (λ said. Ok (candidate_of entry file said))
 
 abbrev pub candidate_at : Files → Path → Option Path → Read Candidate
 candidate_at files entry None = Ok (record { entry = entry; uuid = None; deps = None })
@@ -66,7 +66,7 @@ candidate_at files entry (Some home) = candidate_with files entry (file_in files
 
 abbrev pub of_spot : Files → Option Spot → Read (Option Candidate)
 of_spot files None = Ok None
-of_spot files (Some spot) = then_file (candidate_at files spot.entry spot.home) (λ candidate. Ok (Some candidate))
+of_spot files (Some spot) = then_ok (candidate_at files spot.entry spot.home) (λ candidate. Ok (Some candidate))
 
 -- the package of that name in a package folder
 abbrev pub candidate_read : Files → Path → List ℕ → Read (Option Candidate)
@@ -82,10 +82,8 @@ candidate files folder name = given (candidate_read files folder name)
 
 -- two identifiers that are the same, or none both
 abbrev pub equal_uuids : Option (List ℕ) → Option (List ℕ) → Bool
-equal_uuids None None = true
-equal_uuids None (Some b) = false
-equal_uuids (Some a) None = false
-equal_uuids (Some a) (Some b) = bytes_eq a b
+equal_uuids None b = is_none b
+equal_uuids (Some a) b = same_uuid (Some a) b
 
 -- the identity of a package of that name
 abbrev pub root_at : List ℕ → Option Candidate → Option Id

@@ -1,12 +1,11 @@
-pub mod Active
 pub mod ByName
 pub mod Candidates
-pub mod Each
-pub mod Elements
-pub mod Faults
-pub mod Files
 pub mod Library
-pub mod ManifestPath
 pub mod Maps
-pub mod Seen
 pub mod ThreeMaps
+
+pub use Rattle.project_places.specs.Active
+pub use Rattle.project_places.specs.Elements
+pub use Rattle.project_places.specs.Faults
+pub use Rattle.project_places.specs.Files
+pub use Rattle.project_places.specs.ManifestPath

@@ -1,11 +1,12 @@
 -- The standard libraries: folders of the standard library folder, each with a project file that has its identifier.
 use Rattle.std.specs.Prelude.{ℕ, List, Option, Some, None, Result, Ok, Err}
 use Rattle.std.specs.Option.{option_and_then}
+use Rattle.pkg_world.specs.Each.{then_ok}
 use Rattle.pkg_world.specs.Path.{Path, joined}
 use Rattle.pkg_world.specs.Tree.{Files, holds}
 use Rattle.project_file.specs.Said as project
-use Rattle.env_maps.specs.Active.{file_in}
-use Rattle.env_maps.specs.Files.{Read, at_file, then_file, project_in}
+use Rattle.project_places.specs.Active.{file_in}
+use Rattle.project_places.specs.Files.{Read, at_file, project_in}
 use Rattle.env_maps.specs.ByName.{by_name, given}
 
 abbrev pub uuid_of : Option project.Said → Option (List ℕ)
@@ -18,7 +19,7 @@ library_folder stdlib name = option_and_then (λ folder. joined folder name) std
 
 -- the identifier that the project file at a path has
 abbrev pub uuid_at : Files → Path → Read (Option (List ℕ))
-uuid_at files file = then_file (at_file file (project_in (holds file files))) (λ said. Ok (uuid_of said))
+uuid_at files file = then_ok (at_file file (project_in (holds file files))) (λ said. Ok (uuid_of said))
 
 abbrev pub uuid_in : Files → Option Path → Read (Option (List ℕ))
 uuid_in files None = Ok None

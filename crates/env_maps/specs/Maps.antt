@@ -2,6 +2,7 @@
 use Rattle.std.specs.Prelude.{ℕ, Bool, true, false, not, ◌&&◌, if◌then◌else◌, List, [], ◌∷◌, ◌++◌, codes, Option, Some, None, option_map, Result, Ok, Err}
 use Rattle.std.specs.Option.{option_and_then}
 use Rattle.std.specs.Str.{bytes_eq}
+use Rattle.pkg_world.specs.Each.{then_ok}
 use Rattle.pkg_world.specs.Path.{Path, joined, folder_of}
 use Rattle.pkg_world.specs.Tree.{Files, holds, is_file}
 use Rattle.pkg_world.specs.declared.place.Place.{Place}
@@ -19,8 +20,8 @@ use Rattle.env_maps.specs.declared.id.Context.TheVariants.{Top, Package}
 use Rattle.env_maps.specs.declared.id.DepAnswer.{DepAnswer}
 use Rattle.env_maps.specs.declared.id.DepAnswer.TheVariants.{NotMine, NoName, Found}
 use Rattle.env_maps.specs.Library.{library_folder, library_read}
-use Rattle.env_maps.specs.Files.{Read, at_file, then_file, project_in, manifest_in}
-use Rattle.env_maps.specs.ManifestPath.{manifest_path}
+use Rattle.project_places.specs.Files.{Read, at_file, project_in, manifest_in}
+use Rattle.project_places.specs.ManifestPath.{manifest_path}
 
 -- a project: where its file is or would be, the identity of its own package, its dependencies, and the stanzas of its
 -- manifest with the folder from which their paths go; the depots and the standard library folder of its place
@@ -71,7 +72,7 @@ env_of place file said path found =
     (record { file = file; own = own_of said.name said.uuid; deps = said.deps; folder = folder_of path; stanzas = found.stanzas; depots = place.depots.items; stdlib = place.stdlib }))
 
 abbrev pub env_at : Files → Place → Path → project.Said → Path → Read Env
-env_at files place file said path = then_file (at_file path (manifest_in (holds path files))) (env_of place file said path)
+env_at files place file said path = then_ok (at_file path (manifest_in (holds path files))) (env_of place file said path)
 
 abbrev pub no_env : Place → Path → Env
 no_env place file = record { file = file; own = None; deps = []; folder = folder_of file; stanzas = []; depots = place.depots.items; stdlib = place.stdlib }
@@ -79,11 +80,11 @@ no_env place file = record { file = file; own = None; deps = []; folder = folder
 -- a project file that isn't there gives an environment without entries, whatever manifest lies beside it
 abbrev pub env_with : Files → Place → Path → Option project.Said → Read Env
 env_with files place file None = Ok (no_env place file)
-env_with files place file (Some said) = then_file (at_file file (manifest_path files file said.manifest)) (env_at files place file said)
+env_with files place file (Some said) = then_ok (at_file file (manifest_path files file said.manifest)) (env_at files place file said)
 
 -- the environment of a project file: the file itself, then its manifest
 abbrev pub env_in : Files → Place → Path → Read Env
-env_in files place file = then_file (at_file file (project_in (holds file files))) (env_with files place file)
+env_in files place file = then_ok (at_file file (project_in (holds file files))) (env_with files place file)
 
 -- the identity that a dependency's name has
 abbrev pub dep_of : List ℕ → List (List ℕ × List ℕ) → Option Id
@@ -99,7 +100,7 @@ own_or name (Some id) dep = if bytes_eq id.name name then Some id else dep
 abbrev pub root_of : Env → List ℕ → Option Id
 root_of env name = own_or name env.own (dep_of name env.deps)
 
--- two identifiers, or none, that are the same
+-- whether two identifiers are there and the same
 abbrev pub same_uuid : Option (List ℕ) → Option (List ℕ) → Bool
 same_uuid (Some a) (Some b) = bytes_eq a b
 same_uuid (Some a) None = false
@@ -169,7 +170,7 @@ library_for files env id = if is_library env id then library_read files env.stdl
 
 -- the entry path of an identity, or the refused project file of its standard library
 abbrev pub entry_in : Files → Env → Id → Read (Option Path)
-entry_in files env id = then_file (library_for files env id) (λ library. Ok (path_with files library env id))
+entry_in files env id = then_ok (library_for files env id) (λ library. Ok (path_with files library env id))
 
 -- contexts to their dependencies: those of the project for its own package, which comes before a stanza, else the stanza's
 abbrev pub graph_of : Env → Id → Option (List (List ℕ × List ℕ))

@@ -1,19 +1,17 @@
 //! A package of a package folder.
-ghost use Rattle.std.specs.Prelude.{◌≡◌, ◌==◌, ◌≤◌, ℕ, List, None, Some, IfSome, IfOk, IfErr, option_map};
-ghost use Rattle.std.specs.Option.{option_copied};
+ghost use Rattle.std.specs.Prelude.{◌≡◌, ◌≤◌, None, Some, IfSome, IfOk, IfErr, option_map};
 ghost use Rattle.project_file.specs.Said.{said as said_project};
-ghost use Rattle.env_maps.specs.Active.{file_in as file_meant};
+ghost use Rattle.project_places.specs.Active.{file_in as file_meant};
 ghost use Rattle.env_maps.specs.Candidates as spec;
-ghost use Rattle.env_maps.specs.Files.{Loads};
-ghost use Rattle.env_maps.specs.Faults.{ReadFaultRose};
+ghost use Rattle.project_places.specs.Files.{Loads};
+ghost use Rattle.project_places.specs.Faults.{ReadFaultRose};
 
-use crate::fault::EnvFault;
-use crate::file::project_at;
-use crate::folders::file_in;
+use crate::id::is_uuid;
 use crate::spot::{Spot, spot_of};
-use pkg_world::{Duplicate, Name, NameIds, NormPath, Store};
+use pkg_world::{Name, NameIds, NormPath, Store};
 use project_file::Project;
-use std::alloc::{AllocError, Global};
+use project_places::{EnvFault, file_in, project_at};
+use std::alloc::Global;
 use std::marker::Model;
 use uuid::Uuid;
 
@@ -180,10 +178,7 @@ pub(crate) fn has_uuid(candidate: &Candidate, uuid: &Option<Uuid>) -> bool
     ensures { result ≡ spec.equal_uuids candidate.now.uuid uuid.now }
 {
     match &candidate.uuid {
-        Some(own) => match uuid {
-            Some(uuid) => *own == *uuid,
-            None => false,
-        },
+        Some(own) => is_uuid(uuid, own),
         None => uuid.is_none(),
     }
 }

@@ -5,15 +5,14 @@ ghost use Rattle.pkg_world.specs.Path.{joined, folder_of};
 ghost use Rattle.manifest_file.specs.Said.{said_stanza};
 ghost use Rattle.depot_hash.specs.Installed.{installed_in};
 ghost use Rattle.env_maps.specs.Maps as spec;
-ghost use Rattle.env_maps.specs.Faults.{OnlyReadFault};
+ghost use Rattle.project_places.specs.Faults.{OnlyReadFault};
 
-use crate::fault::EnvFault;
 use crate::id::is_uuid;
 use crate::library::library_folder;
-use crate::there::{is_there, path_in};
 use depot_hash::{FolderFault, installed};
 use manifest_file::{Origin, Stanza};
-use pkg_world::{Name, NormPath, NormPaths, PathFault, Store, TreeId};
+use pkg_world::{Name, NormPath, NormPaths, Store, TreeId};
+use project_places::{EnvFault, is_there, path_in};
 use std::alloc::{AllocError, Global};
 use uuid::Uuid;
 
@@ -97,10 +96,10 @@ fn path_entry<S: Store>(
     ensures later { S.read_faults store.old ≤ S.read_faults store.new }
     ensures other { S.write_faults store.new ≡ S.write_faults store.old }
 {
-    match NormPath::join(alloc, folder, text.as_str()) {
-        Ok(path) => entry_at(alloc, store, name, path),
-        Err(PathFault::Escapes) => Ok(None),
-        Err(PathFault::Memory) => Err(EnvFault::Memory),
+    match path_in(alloc, folder, text.as_str()) {
+        Ok(Some(path)) => entry_at(alloc, store, name, path),
+        Ok(None) => Ok(None),
+        Err(_) => Err(EnvFault::Memory),
     }
 }
 

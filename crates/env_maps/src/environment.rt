@@ -5,19 +5,17 @@ ghost use Rattle.std.specs.Str.{bytes_eq};
 ghost use Rattle.project_file.specs.Said.{said as said_project};
 ghost use Rattle.manifest_file.specs.Said.{said as said_manifest, said_stanza};
 ghost use Rattle.env_maps.specs.Maps as spec;
-ghost use Rattle.env_maps.specs.Files.{Loads};
-ghost use Rattle.env_maps.specs.Faults.{OnlyReadFault, NoReadFault, ReadFaultRose};
+ghost use Rattle.project_places.specs.Files.{Loads};
+ghost use Rattle.project_places.specs.Faults.{OnlyReadFault, NoReadFault, ReadFaultRose};
 
 use crate::entry::{source_beside, stanza_entry};
 use crate::escaping::{first_escaping, path_refused};
-use crate::fault::EnvFault;
-use crate::file::{manifest_at, project_at};
 use crate::id::{Context, DepAnswer, Id, is_uuid};
 use crate::library::library_uuid;
-use crate::manifest_place::manifest_path;
 use manifest_file::{Manifest, Origin, Stanza, Stanzas};
 use pkg_world::{Duplicate, Name, NameIds, NormPath, NormPaths, Place, Store};
 use project_file::Project;
+use project_places::{EnvFault, manifest_at, manifest_path, project_at};
 use std::alloc::{AllocError, Global};
 use std::marker::Model;
 use uuid::Uuid;
@@ -27,7 +25,7 @@ use uuid::Uuid;
 #[derive(Drop)]
 pub struct ProjectEnv {
     file: NormPath,
-    own: Option<Id>,
+    own: Option<Own>,
     deps: NameIds,
     folder: NormPath,
     stanzas: Stanzas,
@@ -43,6 +41,22 @@ impl Model for ProjectEnv {
     ghost Value = { Env };
 
     ghost view = { λ a. record { file = a.file; own = a.own; deps = a.deps.items; folder = a.folder; stanzas = map said_stanza a.stanzas.items; depots = a.depots.items; stdlib = a.stdlib } };
+}
+
+/// The identity of a project's own package: it has an identifier.
+#[derive(Drop)]
+struct Own {
+    uuid: Uuid,
+    name: Name,
+}
+
+impl Model for Own {
+    ghost use Rattle.std.specs.Prelude.{Some};
+    ghost use Rattle.env_maps.specs.declared.id.Id.{Id};
+
+    ghost Value = { Id };
+
+    ghost view = { λ a. record { uuid = Some a.uuid; name = a.name } };
 }
 
 impl ProjectEnv {
@@ -77,7 +91,7 @@ impl ProjectEnv {
         match &self.own {
             Some(own) => {
                 if own.name.as_str() == name.as_str() {
-                    Ok(Some(own.copy(alloc)?))
+                    identity(alloc, &own.name, own.uuid)
                 } else {
                     dependency_among(alloc, self.deps.items(), name)
                 }
@@ -208,7 +222,7 @@ impl ProjectEnv {
         ensures { result ≡ spec.is_identity id.now self.now.own }
     {
         match &self.own {
-            Some(own) => own.name.as_str() == id.name.as_str() && is_same(&own.uuid, &id.uuid),
+            Some(own) => own.name.as_str() == id.name.as_str() && is_uuid(&id.uuid, &own.uuid),
             None => false,
         }
     }
@@ -222,15 +236,12 @@ impl ProjectEnv {
 }
 
 /// The identity of a project's own package, where the file has both name and identifier.
-fn own_of(name: Option<Name>, uuid: Option<Uuid>) -> Option<Id>
+fn own_of(name: Option<Name>, uuid: Option<Uuid>) -> Option<Own>
     ensures { result ≡ spec.own_of name uuid }
 {
     match name {
         Some(name) => match uuid {
-            Some(uuid) => Some(Id {
-                uuid: Some(uuid),
-                name,
-            }),
+            Some(uuid) => Some(Own { uuid, name }),
             None => None,
         },
         None => None,
@@ -292,15 +303,6 @@ fn is_of(stanza: &Stanza, id: &Id) -> bool
     ensures { result ≡ (bytes_eq stanza.now.name id.now.name && spec.same_uuid (Some stanza.now.uuid) id.now.uuid) }
 {
     stanza.name.as_str() == id.name.as_str() && is_uuid(&id.uuid, &stanza.uuid)
-}
-
-fn is_same(one: &Option<Uuid>, other: &Option<Uuid>) -> bool
-    ensures { result ≡ spec.same_uuid one.now other.now }
-{
-    match one {
-        Some(one) => is_uuid(other, one),
-        None => false,
-    }
 }
 
 fn is_std(stanza: Option<&Stanza>) -> bool

@@ -3,13 +3,12 @@ ghost use Rattle.std.specs.Prelude.{◌≡◌, IfOk, IfErr, map};
 ghost use Rattle.std.specs.Option.{option_copied};
 ghost use Rattle.manifest_file.specs.Said.{said_stanza};
 ghost use Rattle.env_maps.specs.Maps as spec;
-ghost use Rattle.env_maps.specs.Files.{RefusesFile};
+ghost use Rattle.project_places.specs.Files.{RefusesFile};
 ghost use Rattle.pkg_world.specs.declared.cause.Cause.TheVariants.{BadShape};
 
-use crate::fault::EnvFault;
-use crate::file::bad_file;
 use manifest_file::{Origin, Stanza};
 use pkg_world::{Cause, Name, NormPath, PathFault, Text};
+use project_places::{EnvFault, bad_file};
 use std::alloc::{AllocError, Global};
 
 /// The name of the first stanza whose path, taken from the manifest's folder, rises above the root.

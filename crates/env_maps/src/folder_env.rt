@@ -3,18 +3,17 @@ ghost use Rattle.std.specs.Prelude.{◌≡◌, ◌≤◌, IfSome, IfOk, IfErr};
 ghost use Rattle.std.specs.Option.{option_copied};
 ghost use Rattle.env_maps.specs.ByName.{found_in, with_name};
 ghost use Rattle.env_maps.specs.Candidates as spec;
-ghost use Rattle.env_maps.specs.Each.{Adds};
-ghost use Rattle.env_maps.specs.Files.{Loads};
+ghost use Rattle.project_places.specs.Files.{Adds, Loads};
 ghost use Rattle.env_maps.specs.Maps.{dep_answer, in_graph};
 ghost use Rattle.env_maps.specs.ThreeMaps.{folder_maps};
-ghost use Rattle.env_maps.specs.Faults.{ReadFaultRose};
+ghost use Rattle.project_places.specs.Faults.{ReadFaultRose};
 
 use crate::by_name::found_at;
 use crate::candidate::{Candidate, candidate_in, has_uuid};
 use crate::environment::dep_among;
-use crate::fault::EnvFault;
 use crate::id::{Context, DepAnswer, Id};
 use pkg_world::{Duplicate, Listed, Name, Names, NormPath, Store};
+use project_places::EnvFault;
 use std::alloc::{AllocError, Global};
 use std::marker::Model;
 

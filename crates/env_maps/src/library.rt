@@ -1,20 +1,16 @@
 //! The standard libraries that lie in a folder.
 ghost use Rattle.std.specs.Prelude.{◌≡◌, ◌≤◌, IfSome, IfOk, IfErr, option_map};
 ghost use Rattle.project_file.specs.Said.{said as said_project};
-ghost use Rattle.env_maps.specs.Active.{file_in as file_meant};
+ghost use Rattle.project_places.specs.Active.{file_in as file_meant};
 ghost use Rattle.env_maps.specs.Library as spec;
 ghost use Rattle.env_maps.specs.ByName.{found_in, with_name};
-ghost use Rattle.env_maps.specs.Each.{Adds};
-ghost use Rattle.env_maps.specs.Files.{Loads};
-ghost use Rattle.env_maps.specs.Faults.{ReadFaultRose};
+ghost use Rattle.project_places.specs.Files.{Adds, Loads};
+ghost use Rattle.project_places.specs.Faults.{ReadFaultRose};
 
 use crate::by_name::found_at;
-use crate::fault::EnvFault;
-use crate::file::project_at;
-use crate::folders::file_in;
-use crate::there::path_in;
 use pkg_world::{Duplicate, Listed, Name, Names, NormPath, Store};
 use project_file::Project;
+use project_places::{EnvFault, file_in, path_in, project_at};
 use std::alloc::{AllocError, Global};
 use std::marker::Model;
 use uuid::Uuid;

@@ -2,15 +2,14 @@
 ghost use Rattle.std.specs.Prelude.{◌≡◌, ◌++◌, ◌≤◌, Some, None, codes, IfSome, IfOk, IfErr, string_bytes};
 ghost use Rattle.std.specs.Option.{option_and_then};
 ghost use Rattle.pkg_world.specs.Path.{joined};
-ghost use Rattle.env_maps.specs.Active.{or_next};
+ghost use Rattle.project_places.specs.Active.{or_next};
 ghost use Rattle.env_maps.specs.Candidates as spec;
 ghost use Rattle.env_maps.specs.Maps.{source_text};
-ghost use Rattle.env_maps.specs.Faults.{OnlyReadFault};
+ghost use Rattle.project_places.specs.Faults.{OnlyReadFault};
 
 use crate::entry::source_inside;
-use crate::fault::EnvFault;
-use crate::there::{is_there, path_in};
 use pkg_world::{Name, NormPath, Store};
+use project_places::{EnvFault, is_there, path_in};
 use std::alloc::{AllocError, Global};
 
 /// The entry file of a package, and the folder whose project file belongs to it, where there is one.

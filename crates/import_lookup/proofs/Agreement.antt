@@ -10,11 +10,11 @@ use Rattle.pkg_world.specs.Tree.{Files}
 use Rattle.env_maps.specs.declared.id.Id.{Id}
 use Rattle.env_maps.specs.declared.id.Context.{Context}
 use Rattle.env_maps.specs.declared.id.Context.TheVariants.{Top, Package}
-use Rattle.env_maps.specs.Active.{or_next}
+use Rattle.project_places.specs.Active.{or_next}
 use Rattle.env_maps.specs.ByName.{by_name, with_name, found_at, found_in, given, is_among}
 use Rattle.env_maps.specs.Candidates.{Candidate, candidate, candidate_read, candidates_in, root_at, graph_at, path_at}
-use Rattle.env_maps.specs.Each.{read_each}
-use Rattle.env_maps.specs.Files.{Read, then_file}
+use Rattle.pkg_world.specs.Each.{then_ok, read_each}
+use Rattle.project_places.specs.Files.{Read}
 use Rattle.env_maps.specs.Library.{library_in, library_read, library_uuid}
 use Rattle.env_maps.specs.Maps.{Env, own_or, dep_of, root_of, path_with, in_graph}
 use Rattle.env_maps.specs.ThreeMaps.{Maps, project_maps, folder_maps}
@@ -37,7 +37,7 @@ record IsCons {S T : Type 0} (read : S → Read (List T)) (x : S) (xs : List S) 
   pub both : ys ≡ first ++ rest
 
 split : {S T : Type 0} (read : S → Read (List T)) (x : S) (xs : List S) (ys : List T) (one after : Read (List T)) → read x ≡ one → read_each read xs ≡ after
-    → then_file one (λ first. then_file after (λ rest. Ok (first ++ rest))) ≡ Ok ys → IsCons read x xs ys
+    → then_ok one (λ first. then_ok after (λ rest. Ok (first ++ rest))) ≡ Ok ys → IsCons read x xs ys
 split read x xs ys (Ok first) (Ok rest) e f h = record { first = first; rest = rest; one = e; more = f; both = let same : first ++ rest ≡ ys = cc in sym same }
 split read x xs ys (Ok first) (Err refused) e f h = let no-way : ⊥ = cc in absurd no-way
 split read x xs ys (Err refused) after e f h = let no-way : ⊥ = cc in absurd no-way
@@ -52,7 +52,7 @@ record IsNamed {T : Type 0} (read : List ℕ → Read T) (name : List ℕ) (firs
   pub alone : first ≡ (name, value) ∷ []
 
 named_by : {T : Type 0} (read : List ℕ → Read T) (name : List ℕ) (first : List (List ℕ × T)) (one : Read T) → read name ≡ one
-    → then_file one (λ value. Ok ((name, value) ∷ [])) ≡ Ok first → IsNamed read name first
+    → then_ok one (λ value. Ok ((name, value) ∷ [])) ≡ Ok first → IsNamed read name first
 named_by read name first (Ok value) e h = record { value = value; one = e; alone = let same : (name, value) ∷ [] ≡ first = cc in sym same }
 named_by read name first (Err refused) e h = let no-way : ⊥ = cc in absurd no-way
 
@@ -109,7 +109,7 @@ record IsFolder (files : Files) (folder : Path) (names : List (List ℕ)) (first
   pub alone : first ≡ Folder found ∷ []
 
 folder_by : (files : Files) (folder : Path) (names : List (List ℕ)) (first : List Loaded) (reading : Read (List (List ℕ × Option Candidate))) → candidates_in files folder names ≡ reading
-    → then_file reading (λ found. Ok (Folder found ∷ [])) ≡ Ok first → IsFolder files folder names first
+    → then_ok reading (λ found. Ok (Folder found ∷ [])) ≡ Ok first → IsFolder files folder names first
 folder_by files folder names first (Ok found) e h = record { found = found; read = e; alone = let same : Folder found ∷ [] ≡ first = cc in sym same }
 folder_by files folder names first (Err refused) e h = let no-way : ⊥ = cc in absurd no-way
 

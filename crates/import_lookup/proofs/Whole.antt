@@ -3,10 +3,11 @@ use Rattle.std.proofs.Common.{◌≡◌, ℕ, true, List, Option, Some, None, If
 use Rattle.pkg_world.specs.declared.place.Place.{Place}
 use Rattle.pkg_world.specs.Tree.{Files}
 use Rattle.env_maps.specs.declared.id.Context.{Context}
-use Rattle.env_maps.specs.declared.fault.EnvFault.{EnvFault}
-use Rattle.env_maps.specs.declared.fault.EnvFault.TheVariants.{ReadFault, BadFile, Memory}
+use Rattle.project_places.specs.declared.fault.EnvFault.{EnvFault}
+use Rattle.project_places.specs.declared.fault.EnvFault.TheVariants.{ReadFault, BadFile, Memory}
 use Rattle.env_maps.specs.ByName.{is_among}
-use Rattle.env_maps.specs.Files.{Read, then_file, Refuses, Loads}
+use Rattle.pkg_world.specs.Each.{then_ok}
+use Rattle.project_places.specs.Files.{Read, Refuses, Loads}
 use Rattle.env_maps.specs.Library.{library_in}
 use Rattle.import_lookup.specs.declared.answer.ImportAnswer.{ImportAnswer}
 use Rattle.import_lookup.specs.declared.loaded.Environment.{Environment}
@@ -17,11 +18,11 @@ use Rattle.import_lookup.specs.Loading.{all_loaded, loaded_maps, Held, with_libr
 use Rattle.import_lookup.proofs.Agreement.{import_same}
 
 -- a stack that is refused refuses every import
-refused_by : {S T : Type 0} (reading : Read S) (refused : _) (next : S → Read T) → reading ≡ Err refused → then_file reading next ≡ Err refused
+refused_by : {S T : Type 0} (reading : Read S) (refused : _) (next : S → Read T) → reading ≡ Err refused → then_ok reading next ≡ Err refused
 refused_by reading refused next e = rw e refl
 
 by_envs : (files : Files) (place : Place) (names : List (List ℕ)) (context : Context) (name : List ℕ) (fault : EnvFault) (found : Read (List Environment))
-    → Refuses (then_file found (held_of files place names)) fault → Refuses (then_file found (answered files place names context name)) fault
+    → Refuses (then_ok found (held_of files place names)) fault → Refuses (then_ok found (answered files place names context name)) fault
 by_envs files place names context name (ReadFault path) found h = tt
 by_envs files place names context name (BadFile path cause) (Ok envs) h = refused_by (held_of files place names envs) (path, cause) (λ held. Ok (import_over files (maps_of files place.stdlib) envs context name)) h
 by_envs files place names context name (BadFile path cause) (Err refused) h = let same : refused ≡ (path, cause) = cc in ap Err same
@@ -38,7 +39,7 @@ record IsHeld (files : Files) (place : Place) (names : List (List ℕ)) (envs : 
 
 held_by : (files : Files) (place : Place) (names : List (List ℕ)) (envs : List Environment) (held : Held) (one : Read (List Loaded)) (two : Read (List (List ℕ × Option (List ℕ))))
     → all_loaded files names envs ≡ one → library_in files place.stdlib names ≡ two
-    → then_file one (λ loaded. then_file two (λ library. Ok (record { envs = loaded; library = library }))) ≡ Ok held → IsHeld files place names envs held
+    → then_ok one (λ loaded. then_ok two (λ library. Ok (record { envs = loaded; library = library }))) ≡ Ok held → IsHeld files place names envs held
 held_by files place names envs held (Ok loaded) (Ok library) e f h =
     let same : record { envs = loaded; library = library } ≡ held = cc in
     record { loaded = e ∙ ap Ok (ap (λ s. s.envs) same); library = f ∙ ap Ok (ap (λ s. s.library) same) }
@@ -46,11 +47,11 @@ held_by files place names envs held (Ok loaded) (Err refused) e f h = let no-way
 held_by files place names envs held (Err refused) two e f h = let no-way : ⊥ = cc in absurd no-way
 
 whole_by : (files : Files) (place : Place) (names : List (List ℕ)) (context : Context) (name : List ℕ) (held : Held) (found : Read (List Environment))
-    → serves names context ≡ true → is_among name names ≡ true → then_file found (held_of files place names) ≡ Ok held
-    → then_file found (answered files place names context name) ≡ Ok (import_over files (loaded_maps files held.library) held.envs context name)
+    → serves names context ≡ true → is_among name names ≡ true → then_ok found (held_of files place names) ≡ Ok held
+    → then_ok found (answered files place names context name) ≡ Ok (import_over files (loaded_maps files held.library) held.envs context name)
 whole_by files place names context name held (Ok envs) served among h =
     let is = held_by files place names envs held (all_loaded files names envs) (library_in files place.stdlib names) refl refl h in
-    ap (λ reading. then_file reading (λ stack. Ok (import_over files (maps_of files place.stdlib) envs context name))) h
+    ap (λ reading. then_ok reading (λ stack. Ok (import_over files (maps_of files place.stdlib) envs context name))) h
     ∙ ap Ok (import_same files place.stdlib names held.library envs held.envs context name is.loaded is.library served among)
 whole_by files place names context name held (Err refused) served among h = let no-way : ⊥ = cc in absurd no-way
 

@@ -7,7 +7,7 @@ use Rattle.pkg_world.specs.Tree.{Files, holds, is_file}
 use Rattle.env_maps.specs.declared.id.Id.{Id}
 use Rattle.env_maps.specs.declared.id.Context.{Context}
 use Rattle.env_maps.specs.declared.id.Context.TheVariants.{Top, Package}
-use Rattle.env_maps.specs.Active.{or_next}
+use Rattle.project_places.specs.Active.{or_next}
 use Rattle.env_maps.specs.Maps.{dep_of, in_graph}
 use Rattle.env_maps.specs.ThreeMaps.{Maps, project_maps, folder_maps}
 use Rattle.env_maps.specs.Candidates.{candidate}

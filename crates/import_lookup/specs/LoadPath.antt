@@ -4,11 +4,11 @@ use Rattle.std.specs.List.{flat_map}
 use Rattle.pkg_world.specs.declared.place.Place.{Place}
 use Rattle.pkg_world.specs.Path.{Path, pieces_at}
 use Rattle.pkg_world.specs.Tree.{Files}
-use Rattle.env_maps.specs.declared.element.Element.{Element}
-use Rattle.env_maps.specs.declared.element.Element.TheVariants.{Project, Folder, Nothing}
-use Rattle.env_maps.specs.Each.{read_each}
-use Rattle.env_maps.specs.Elements.{element}
-use Rattle.env_maps.specs.Files.{Read, then_file}
+use Rattle.project_places.specs.declared.element.Element.{Element}
+use Rattle.project_places.specs.declared.element.Element.TheVariants.{Project, Folder, Nothing}
+use Rattle.pkg_world.specs.Each.{then_ok, read_each}
+use Rattle.project_places.specs.Elements.{element}
+use Rattle.project_places.specs.Files.{Read}
 use Rattle.env_maps.specs.Maps.{env_in}
 use Rattle.import_lookup.specs.declared.loaded.Environment.{Environment}
 use Rattle.import_lookup.specs.declared.loaded.Environment.TheVariants as kinds
@@ -27,7 +27,7 @@ elements (Some text) = if length text == 0 then [] else flat_map elements_of (pi
 
 -- the environment of an element; one without entries is left out
 abbrev pub environment_at : Files → Place → Element → Read (List Environment)
-environment_at files place (Project file) = then_file (env_in files place file) (λ env. Ok (kinds.Project env ∷ []))
+environment_at files place (Project file) = then_ok (env_in files place file) (λ env. Ok (kinds.Project env ∷ []))
 environment_at files place (Folder folder) = Ok (kinds.Folder folder ∷ [])
 environment_at files place Nothing = Ok []
 

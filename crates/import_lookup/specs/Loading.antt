@@ -10,8 +10,8 @@ use Rattle.env_maps.specs.declared.id.Context.TheVariants.{Top, Package}
 use Rattle.env_maps.specs.ByName.{found_in, is_among}
 use Rattle.env_maps.specs.declared.id.Id.{Id}
 use Rattle.env_maps.specs.Candidates.{candidates_in, root_at, graph_at, path_at}
-use Rattle.env_maps.specs.Each.{read_each}
-use Rattle.env_maps.specs.Files.{Read, then_file}
+use Rattle.pkg_world.specs.Each.{then_ok, read_each}
+use Rattle.project_places.specs.Files.{Read}
 use Rattle.env_maps.specs.Library.{library_in}
 use Rattle.env_maps.specs.Maps.{root_of, graph_of, path_with}
 use Rattle.env_maps.specs.ThreeMaps.{Maps}
@@ -26,7 +26,7 @@ use Rattle.import_lookup.specs.LoadPath.{environments}
 -- an environment as it is kept for these names
 abbrev pub loaded_of : Files → List (List ℕ) → Environment → Read (List Loaded)
 loaded_of files names (kinds.Project env) = Ok (Project env ∷ [])
-loaded_of files names (kinds.Folder folder) = then_file (candidates_in files folder names) (λ found. Ok (Folder found ∷ []))
+loaded_of files names (kinds.Folder folder) = then_ok (candidates_in files folder names) (λ found. Ok (Folder found ∷ []))
 
 abbrev pub all_loaded : Files → List (List ℕ) → List Environment → Read (List Loaded)
 all_loaded files names envs = read_each (loaded_of files names) envs
@@ -37,15 +37,15 @@ pub record Held : Type 0 where
   pub library : List (List ℕ × Option (List ℕ))
 
 abbrev pub with_library : Files → Place → List (List ℕ) → List Loaded → Read Held
-with_library files place names loaded = then_file (library_in files place.stdlib names) (λ library. Ok (record { envs = loaded; library = library }))
+with_library files place names loaded = then_ok (library_in files place.stdlib names) (λ library. Ok (record { envs = loaded; library = library }))
 
 abbrev pub held_of : Files → Place → List (List ℕ) → List Environment → Read Held
-held_of files place names envs = then_file (all_loaded files names envs) (with_library files place names)
+held_of files place names envs = then_ok (all_loaded files names envs) (with_library files place names)
 
 -- the stack of a place, for these names: first the project files and manifests, then package folders, then standard
 -- libraries
 abbrev pub stack_in : Files → Place → List (List ℕ) → Read Held
-stack_in files place names = then_file (environments files place) (held_of files place names)
+stack_in files place names = then_ok (environments files place) (held_of files place names)
 
 -- what an environment says that was loaded
 abbrev pub loaded_root : Loaded → List ℕ → Option Id
@@ -75,12 +75,12 @@ serves names (Package id) = is_among id.name names
 
 abbrev pub answered : Files → Place → List (List ℕ) → Context → List ℕ → List Environment → Read ImportAnswer
 answered files place names context name envs =
-    then_file (held_of files place names envs) (λ held. Ok (import_over files (maps_of files place.stdlib) envs context name))
+    then_ok (held_of files place names envs) (λ held. Ok (import_over files (maps_of files place.stdlib) envs context name))
 
 -- the answer of an import over the environments of the load path and over all names, or the first file that is refused of
 -- those that are read for these names
 abbrev pub import_in : Files → Place → List (List ℕ) → Context → List ℕ → Read ImportAnswer
-import_in files place names context name = then_file (environments files place) (answered files place names context name)
+import_in files place names context name = then_ok (environments files place) (answered files place names context name)
 
 -- the names for which the files are read: the context's and the imported one, once where they are the same
 abbrev pub names_of : Context → List ℕ → List (List ℕ)

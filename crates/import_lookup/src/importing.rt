@@ -2,7 +2,7 @@
 ghost use Rattle.std.specs.Prelude.{◌≡◌, ◌≤◌, ℕ, List, Option, Ok, Some, true, IfSome, IfOk, IfErr};
 ghost use Rattle.pkg_world.specs.declared.place.Place.{Place};
 ghost use Rattle.env_maps.specs.ByName.{is_among};
-ghost use Rattle.env_maps.specs.Faults.{OnlyReadFault};
+ghost use Rattle.project_places.specs.Faults.{OnlyReadFault};
 ghost use Rattle.import_lookup.specs.Import as spec;
 ghost use Rattle.import_lookup.specs.Loading.{kept_maps, loaded_maps, import_in, serves, stack_in};
 

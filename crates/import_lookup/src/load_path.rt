@@ -2,9 +2,9 @@
 ghost use Rattle.std.specs.Prelude.{◌≡◌, ◌≤◌, ◌++◌, ◌∷◌, [], Ok, Some, IfSome, IfOk, IfErr, OnOk, MatchResult};
 ghost use Rattle.std.specs.List.{flat_map};
 ghost use Rattle.pkg_world.specs.Path.{pieces_at};
-ghost use Rattle.env_maps.specs.Each.{Adds, read_each};
-ghost use Rattle.env_maps.specs.Files.{Refuses};
-ghost use Rattle.env_maps.specs.Faults.{ReadFaultRose};
+ghost use Rattle.pkg_world.specs.Each.{read_each};
+ghost use Rattle.project_places.specs.Files.{Adds, Refuses};
+ghost use Rattle.project_places.specs.Faults.{ReadFaultRose};
 ghost use Rattle.import_lookup.specs.LoadPath as spec;
 
 use crate::loaded::Environment;

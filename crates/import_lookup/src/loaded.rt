@@ -2,9 +2,8 @@
 ghost use Rattle.std.specs.Prelude.{◌≡◌, ◌≤◌, Ok, IfSome, IfOk, IfErr, MatchResult};
 ghost use Rattle.env_maps.specs.ByName.{found_in};
 ghost use Rattle.env_maps.specs.Candidates.{path_at};
-ghost use Rattle.env_maps.specs.Each.{Adds};
-ghost use Rattle.env_maps.specs.Files.{Refuses};
-ghost use Rattle.env_maps.specs.Faults.{OnlyReadFault, ReadFaultRose};
+ghost use Rattle.project_places.specs.Files.{Adds, Refuses};
+ghost use Rattle.project_places.specs.Faults.{OnlyReadFault, ReadFaultRose};
 ghost use Rattle.env_maps.specs.Maps.{dep_answer, in_graph};
 ghost use Rattle.import_lookup.specs.Loading as spec;
 

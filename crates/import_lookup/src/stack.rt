@@ -1,8 +1,8 @@
 //! The stack of environments.
 ghost use Rattle.std.specs.Prelude.{◌≡◌, ◌≤◌, ℕ, List, Ok, IfSome, IfOk, IfErr};
 ghost use Rattle.env_maps.specs.declared.id.Context.{Context};
-ghost use Rattle.env_maps.specs.Files.{Loads, Refuses};
-ghost use Rattle.env_maps.specs.Faults.{ReadFaultRose};
+ghost use Rattle.project_places.specs.Files.{Loads, Refuses};
+ghost use Rattle.project_places.specs.Faults.{ReadFaultRose};
 ghost use Rattle.import_lookup.specs.Loading as spec;
 
 use crate::load_path::{elements, environments};

@@ -1,6 +1,6 @@
 -- What was read so far stands behind what there was.
 use Rattle.std.proofs.Common.{◌≡◌, ◌≤◌, IfSome, drop}
-use Rattle.env_maps.specs.Each.{onto}
+use Rattle.pkg_world.specs.Each.{onto}
 use Rattle.env_maps.specs.Candidates.{candidates_in}
 use Rattle.env_maps.proofs.folder_env.add_candidates.Given as goal
 

@@ -1,7 +1,8 @@
 use Rattle.std.proofs.Common.{◌∙◌, arith}
 use Rattle.env_maps.specs.ByName.{with_name}
 use Rattle.env_maps.specs.Library.{library_read}
-use Rattle.env_maps.proofs.Each.{rest-step, each-next, each-stops}
+use Rattle.pkg_world.proofs.Each.{rest-step, each-next}
+use Rattle.project_places.proofs.Each.{each-stops}
 use Rattle.env_maps.proofs.library.add_libraries.Goals as goal
 
 pub names-preserved : goal.names-preserved

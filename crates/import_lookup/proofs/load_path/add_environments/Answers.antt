@@ -1,5 +1,6 @@
 use Rattle.std.proofs.Common.{◌∙◌, arith}
-use Rattle.env_maps.proofs.Each.{rest-step, each-next, each-stops}
+use Rattle.pkg_world.proofs.Each.{rest-step, each-next}
+use Rattle.project_places.proofs.Each.{each-stops}
 use Rattle.import_lookup.specs.LoadPath.{environment_of}
 use Rattle.import_lookup.proofs.load_path.add_environments.Goals as goal
 

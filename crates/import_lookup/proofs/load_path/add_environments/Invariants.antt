@@ -1,6 +1,6 @@
 -- What was read so far stands behind what there was.
 use Rattle.std.proofs.Common.{◌≡◌, ◌≤◌, IfSome, drop}
-use Rattle.env_maps.specs.Each.{onto, read_each}
+use Rattle.pkg_world.specs.Each.{onto, read_each}
 use Rattle.import_lookup.specs.LoadPath.{environment_of}
 use Rattle.import_lookup.proofs.load_path.add_environments.Given as goal
 

@@ -1,5 +1,6 @@
-use Rattle.env_maps.specs.Each.{read_each}
-use Rattle.env_maps.proofs.Each.{none-ok, none-err}
+use Rattle.pkg_world.specs.Each.{read_each}
+use Rattle.pkg_world.proofs.Each.{none-ok}
+use Rattle.project_places.proofs.Each.{none-err}
 use Rattle.import_lookup.specs.LoadPath.{environment_of}
 use Rattle.import_lookup.proofs.load_path.environments.Goals as goal
 

@@ -1,5 +1,5 @@
 use Rattle.std.proofs.Common.{◌∙◌, arith}
-use Rattle.env_maps.proofs.Each.{each-next}
+use Rattle.pkg_world.proofs.Each.{each-next}
 use Rattle.import_lookup.specs.Loading.{loaded_of}
 use Rattle.import_lookup.proofs.loaded.add_each.Goals as goal
 

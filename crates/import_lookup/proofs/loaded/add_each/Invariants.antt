@@ -1,7 +1,7 @@
 -- What was kept so far stands behind what there was.
 use Rattle.std.proofs.Common.{◌≡◌, ◌≤◌, IfSome}
 use Rattle.std.specs.VecDeque.{deque_len}
-use Rattle.env_maps.specs.Each.{onto}
+use Rattle.pkg_world.specs.Each.{onto}
 use Rattle.import_lookup.specs.Loading.{all_loaded}
 use Rattle.import_lookup.proofs.loaded.add_each.Given as goal
 

@@ -1,4 +1,5 @@
-use Rattle.env_maps.proofs.Each.{none-ok, none-err}
+use Rattle.pkg_world.proofs.Each.{none-ok}
+use Rattle.project_places.proofs.Each.{none-err}
 use Rattle.import_lookup.specs.Loading.{all_loaded}
 use Rattle.import_lookup.proofs.loaded.load_each.Goals as goal
 

@@ -1,5 +1,6 @@
 use Rattle.env_maps.specs.Library.{library_in}
-use Rattle.env_maps.proofs.Each.{none-ok, none-err}
+use Rattle.pkg_world.proofs.Each.{none-ok}
+use Rattle.project_places.proofs.Each.{none-err}
 use Rattle.env_maps.proofs.library.Library.load.Goals as goal
 
 pub returns-in-Ok-clause-told : goal.returns-in-Ok-clause-told

@@ -1,6 +1,0 @@
--- The numbers run out.
-use Rattle.std.proofs.Common.{length}
-use Rattle.env_maps.proofs.environment_text.+push_numbered.Given as goal
-
-abbrev pub decreases-push_numbered : goal.decreases-push_numbered
-decreases-push_numbered l = length l.numbers.now

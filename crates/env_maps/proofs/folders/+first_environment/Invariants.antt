@@ -1,6 +1,0 @@
--- The depots run out.
-use Rattle.std.proofs.Common.{length}
-use Rattle.env_maps.proofs.folders.+first_environment.Given as goal
-
-abbrev pub decreases-first_environment : goal.decreases-first_environment
-decreases-first_environment g l = length l.depots.now

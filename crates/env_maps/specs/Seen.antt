@@ -1,8 +1,0 @@
--- The definitions' values that the private types of the code stand for.
-use Rattle.env_maps.specs.declared.active.Active as code
-use Rattle.env_maps.specs.declared.active.Active.TheVariants.{InFolder, TheFile}
-use Rattle.env_maps.specs.Active.{Active, in_folder, the_file}
-
-abbrev pub active_of : code.Active → Active
-active_of (InFolder folder) = in_folder folder
-active_of (TheFile path) = the_file path
