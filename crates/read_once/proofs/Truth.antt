@@ -21,8 +21,8 @@ kept_is_true told path there old new plain held true_before keeps = λ all e oth
     let after = sym (keeps other) ∙ r in
     elim (bytes_eq (path_text path) (path_text other)) as (λ t. bytes_eq (path_text path) (path_text other) ≡ t → (if t then Some there else seen_at old other) ≡ Some content → holds other all ≡ content) [
       | true ↦ λ is found. let one = same_text path other plain its is in
-        let there_is : there ≡ content = cc in
-        rw one at (held_at told path there all e held) ∙ there_is
+          let there_is : there ≡ content = cc in
+          rw one at (held_at told path there all e held) ∙ there_is
       | false ↦ λ _ found. true_before all e other its content found
     ] refl after
 

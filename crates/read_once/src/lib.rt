@@ -3,6 +3,8 @@
 
 mod once;
 mod seen;
+#[cfg(test)]
+mod tests;
 mod tied;
 
 pub use once::ReadOnce;

@@ -9,7 +9,9 @@ use crate::seen::{Found, Seen};
 use pkg_world::{KindAnswer, ListAnswer, NormPath, ReadAnswer, Store, WriteAnswer};
 use std::alloc::Global;
 
-/// A store that asks another one for the bytes of each path once, and remembers what it said.
+/// A store that asks another one for the bytes of each path once: what it answered, bytes, nothing or a folder, is
+/// remembered and told again. A call that failed, or had no memory, is made again, as are all other calls. Its memory
+/// takes as much as all files that were read.
 #[derive(Drop)]
 pub struct ReadOnce<'a, S: Store> {
     inside: &'a mut S,
@@ -18,10 +20,10 @@ pub struct ReadOnce<'a, S: Store> {
 }
 
 impl<'a, S: Store> ReadOnce<'a, S> {
-    ghost use Rattle.read_once.specs.Seen.{content_of, Remembers, StaysIn};
-    ghost use Rattle.read_once.specs.Once.{asked, loan_name, remembered};
+    ghost use Rattle.read_once.specs.Seen.{content_of, Remembers};
+    ghost use Rattle.read_once.specs.Once.{asked, loan_name, remembered, KeepsSaid};
 
-    /// Nothing is remembered yet.
+    /// A store over that one, which remembers nothing yet.
     pub fn over(alloc: Global, store: &'a mut S) -> ReadOnce<'a, S>
         ensures loan { loan_name result ≡ store.entry.ghost_name }
         ensures same { asked result ≡ store.old }
@@ -33,8 +35,8 @@ impl<'a, S: Store> ReadOnce<'a, S> {
         }
     }
 
-    /// Forgets what was said and hands the store back, so that proofs know it again.
-    pub fn end(self) -> &'a mut S
+    /// The store that was asked. Where proofs are to know it again, a `ReadOnce` ends in this call.
+    pub fn into_inner(self) -> &'a mut S
         ensures loan { result.ghost_name ≡ loan_name self.entry }
         ensures same { result.now ≡ asked self.entry }
     {
@@ -42,7 +44,7 @@ impl<'a, S: Store> ReadOnce<'a, S> {
         inside
     }
 
-    /// Remembers what was found at a path, and answers it.
+    /// Remembers what was found at a path, and answers it; Memory where there is none for that.
     fn keep(&mut self, alloc: Global, path: &NormPath, found: Found) -> ReadAnswer
         requires held { IfSome (S.files (asked self.old)) (λ all. holds path.now all ≡ content_of found) }
         requires new { remembered self.old path.now ≡ None }
@@ -51,7 +53,7 @@ impl<'a, S: Store> ReadOnce<'a, S> {
         ensures loan { loan_name self.new ≡ loan_name self.old }
         ensures same { asked self.new ≡ asked self.old }
         ensures remembers { Remembers result (remembered self.new path.now) }
-        ensures stays { StaysIn self.old.seen self.new.seen }
+        ensures stays { KeepsSaid self.old self.new }
     {
         let answer = found.answer(alloc);
         match self.seen.keep(alloc, path, found) {
@@ -63,8 +65,8 @@ impl<'a, S: Store> ReadOnce<'a, S> {
 
 /// The files and the counts are those of the store that is asked.
 impl<'a, S: Store> Store for ReadOnce<'a, S> {
-    ghost use Rattle.read_once.specs.Seen.{Remembers, StaysIn, seen_at};
-    ghost use Rattle.read_once.specs.Once.{asked, loan_name, remembered};
+    ghost use Rattle.read_once.specs.Seen.{Remembers};
+    ghost use Rattle.read_once.specs.Once.{asked, loan_name, remembered, KeepsSaid};
 
     ghost files = { λ once. S.files (asked once) };
 
@@ -72,7 +74,7 @@ impl<'a, S: Store> Store for ReadOnce<'a, S> {
 
     ghost write_faults = { λ once. S.write_faults (asked once) };
 
-    /// What was answered before, Bytes, Missing or Folder, is answered again, and the store isn't asked.
+    /// What is remembered is told again, and the store isn't asked. Memory too where there is none to remember.
     fn read(&mut self, alloc: Global, path: &NormPath) -> ReadAnswer
         ensures answer { IfSome (S.files (asked self.old)) (λ all. ReadGives (holds path.now all) result) }
         ensures files { S.files (asked self.new) ≡ S.files (asked self.old) }
@@ -80,9 +82,10 @@ impl<'a, S: Store> Store for ReadOnce<'a, S> {
         ensures failed { ReadFaultRose result (S.read_faults (asked self.old)) (S.read_faults (asked self.new)) }
         ensures other { S.write_faults (asked self.new) ≡ S.write_faults (asked self.old) }
         ensures loan { loan_name self.new ≡ loan_name self.old }
+        ensures again { IfSome (remembered self.old path.now) (λ there. ReadGives there result) }
         ensures once { IsSome (remembered self.old path.now) → asked self.new ≡ asked self.old }
         ensures remembers { Remembers result (remembered self.new path.now) }
-        ensures stays { StaysIn self.old.seen self.new.seen }
+        ensures stays { KeepsSaid self.old self.new }
     {
         if let Some(answer) = self.seen.answer(alloc, path) {
             return answer;
@@ -103,7 +106,7 @@ impl<'a, S: Store> Store for ReadOnce<'a, S> {
         ensures failed { KindFaultRose result (S.read_faults (asked self.old)) (S.read_faults (asked self.new)) }
         ensures other { S.write_faults (asked self.new) ≡ S.write_faults (asked self.old) }
         ensures loan { loan_name self.new ≡ loan_name self.old }
-        ensures stays { StaysIn self.old.seen self.new.seen }
+        ensures stays { KeepsSaid self.old self.new }
     {
         self.inside.kind(alloc, path)
     }
@@ -115,12 +118,12 @@ impl<'a, S: Store> Store for ReadOnce<'a, S> {
         ensures failed { ListFaultRose result (S.read_faults (asked self.old)) (S.read_faults (asked self.new)) }
         ensures other { S.write_faults (asked self.new) ≡ S.write_faults (asked self.old) }
         ensures loan { loan_name self.new ≡ loan_name self.old }
-        ensures stays { StaysIn self.old.seen self.new.seen }
+        ensures stays { KeepsSaid self.old self.new }
     {
         self.inside.list(alloc, path)
     }
 
-    /// Forgets all that was said, since other paths than this one may change: its parents become folders.
+    /// Forgets all paths, since the parents of this one may become folders.
     fn replace(&mut self, alloc: Global, path: &NormPath, bytes: &[u8]) -> WriteAnswer
         ensures answer { ReplaceGives path.now bytes.now (S.files (asked self.old)) (S.files (asked self.new)) result }
         ensures later { S.write_faults (asked self.old) ≤ S.write_faults (asked self.new) }

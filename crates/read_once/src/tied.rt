@@ -1,6 +1,6 @@
 //! A store that asks once, for functions that are generic in their store.
 ghost use Rattle.std.specs.Prelude.{◌≡◌, ℕ};
-ghost use Rattle.read_once.specs.Once.{asked, loan_name};
+ghost use Rattle.read_once.specs.Once.{loan_name};
 
 use crate::once::ReadOnce;
 use pkg_world::{KindAnswer, ListAnswer, NormPath, ReadAnswer, Store, WriteAnswer};
@@ -26,9 +26,12 @@ pub struct Tied<'a, L: Loan, S: Store> {
 }
 
 impl<'a, L: Loan, S: Store> Tied<'a, L, S> {
+    ghost use Rattle.read_once.specs.Tied.{once_of};
+
+    /// The same store, tied to its borrow.
     pub fn of(once: ReadOnce<'a, S>) -> Tied<'a, L, S>
         requires { loan_name once ≡ L.name }
-        ensures { result.once ≡ once.entry }
+        ensures { once_of result ≡ once.entry }
     {
         Tied {
             once,
@@ -36,9 +39,10 @@ impl<'a, L: Loan, S: Store> Tied<'a, L, S> {
         }
     }
 
+    /// The store without its tie.
     pub fn into_inner(self) -> ReadOnce<'a, S>
         ensures loan { loan_name result ≡ L.name }
-        ensures same { result ≡ self.entry.once }
+        ensures same { result ≡ once_of self.entry }
     {
         let Tied { once, of: _ } = self;
         once
@@ -47,11 +51,14 @@ impl<'a, L: Loan, S: Store> Tied<'a, L, S> {
 
 /// The files and the counts are those of the store that is asked.
 impl<'a, L: Loan, S: Store> Store for Tied<'a, L, S> {
-    ghost files = { λ tied. S.files (asked tied.once) };
+    ghost use Rattle.read_once.specs.Once.{asked};
+    ghost use Rattle.read_once.specs.Tied.{once_of};
 
-    ghost read_faults = { λ tied. S.read_faults (asked tied.once) };
+    ghost files = { λ tied. S.files (asked (once_of tied)) };
 
-    ghost write_faults = { λ tied. S.write_faults (asked tied.once) };
+    ghost read_faults = { λ tied. S.read_faults (asked (once_of tied)) };
+
+    ghost write_faults = { λ tied. S.write_faults (asked (once_of tied)) };
 
     fn read(&mut self, alloc: Global, path: &NormPath) -> ReadAnswer {
         self.once.read(alloc, path)
