@@ -40,7 +40,7 @@ pub(crate) fn number_text(alloc: Global, number: u64) -> Result<String, AllocErr
     format!(in alloc; "{number}")
 }
 
-/// An identifier in lower case with hyphens.
+/// An identifier in lower case with hyphens. The one error is want of memory.
 pub fn plain_uuid(alloc: Global, uuid: &Uuid) -> Result<String, AllocError>
     ensures { IfOk result (λ text. string_bytes text ≡ text_of_uuid (Some uuid.now)) }
 {

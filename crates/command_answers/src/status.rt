@@ -105,7 +105,8 @@ impl From<AllocError> for Status {
     }
 }
 
-/// The line of a status that is not Ok.
+/// The line of a status that is not Ok, with its newline: `error`, the code and the name of the status, and what it
+/// carries. (own rule) The one error is want of memory.
 pub fn status_line(alloc: Global, status: &Status) -> Result<String, AllocError>
     ensures { IfOk result (λ line. string_bytes line ≡ line_of status.now) }
 {
@@ -200,7 +201,7 @@ fn no_source_line(alloc: Global, uuid: &Option<Uuid>) -> Result<String, AllocErr
     error_line(alloc, "5 NoSource", text.as_str())
 }
 
-/// An identifier in lower case with hyphens, nil as `-`.
+/// An identifier in lower case with hyphens, nil as `-`. The one error is want of memory.
 pub fn uuid_text(alloc: Global, uuid: &Option<Uuid>) -> Result<String, AllocError>
     ensures { IfOk result (λ text. string_bytes text ≡ text_of_uuid uuid.now) }
 {

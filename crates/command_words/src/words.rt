@@ -14,7 +14,7 @@ use pkg_world::{Duplicate, Name, Text};
 use std::alloc::{AllocError, Global};
 use toml_view::identifier;
 
-/// What words ask for.
+/// What words ask for. (own rule)
 #[derive(Debug, Drop)]
 pub enum Asked {
     /// `which` of a name from a context.
@@ -38,7 +38,11 @@ struct NameAndValue {
     value: Option<Text>,
 }
 
-/// What the words ask for.
+/// What the words ask for: the command word, and behind it a name, the command's option with its value, and its flag,
+/// as far as the command has them, in any order. (own rule; switches as the crate clap takes them)
+///
+/// BadWords where the command is unknown or the words behind it break its rules; NotBuilt, which goes before, where the
+/// command or an option among the words is one that this version does not have yet. The one error is want of memory.
 pub fn read_words(alloc: Global, words: &[String]) -> Result<Asked, AllocError>
     ensures { IfOk result (λ asked. asked_of asked ≡ spec.asked (texts words.now)) }
 {

@@ -1,6 +1,7 @@
 -- What the two files of the active project say, or the first refusal: a project file that must be there, and a manifest
 -- that is empty where it isn't.
 use Rattle.std.specs.Prelude.{◌≡◌, ℕ, List, Option, Some, None, Result, Ok, Err, MatchResult}
+use Rattle.pkg_world.specs.Each.{then_ok}
 use Rattle.pkg_world.specs.Path.{Path}
 use Rattle.pkg_world.specs.Tree.{Files, holds}
 use Rattle.pkg_world.specs.declared.place.Place.{Place}
@@ -19,11 +20,6 @@ pub record Both : Type 0 where
   pub project : project.Said
   pub manifest : manifest.Said
 
--- one phase and then the next: the first refusal counts
-abbrev pub then_due : {S T : Type 0} → Result S Status → (S → Result T Status) → Result T Status
-then_due (Ok value) next = next value
-then_due (Err status) next = Err status
-
 abbrev pub told_read : {T : Type 0} → Read T → Result T Status
 told_read (Ok value) = Ok value
 told_read (Err refused) = Err (BadFile refused.0 refused.1)
@@ -36,13 +32,13 @@ abbrev pub with_manifest : Path → project.Said → manifest.Said → Result Bo
 with_manifest file said found = Ok (record { file = file; project = said; manifest = found })
 
 abbrev pub both_of : Files → Path → project.Said → Path → Result Both Status
-both_of files file said path = then_due (told_read (at_file path (manifest_in (holds path files)))) (with_manifest file said)
+both_of files file said path = then_ok (told_read (at_file path (manifest_in (holds path files)))) (with_manifest file said)
 
 abbrev pub both_with : Files → Path → project.Said → Result Both Status
-both_with files file said = then_due (told_read (at_file file (manifest_path files file said.manifest))) (both_of files file said)
+both_with files file said = then_ok (told_read (at_file file (manifest_path files file said.manifest))) (both_of files file said)
 
 abbrev pub both_at : Files → Path → Result Both Status
-both_at files file = then_due (then_due (told_read (at_file file (project_in (holds file files)))) (or_missing file)) (both_with files file)
+both_at files file = then_ok (then_ok (told_read (at_file file (project_in (holds file files)))) (or_missing file)) (both_with files file)
 
 abbrev pub both_in : Files → Place → Result Both Status
 both_in files place = both_at files (active_file files place)

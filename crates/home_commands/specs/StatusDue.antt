@@ -4,6 +4,7 @@ use Rattle.std.specs.Prelude.{◌≡◌, ℕ, Bool, true, false, List, [], ◌�
 use Rattle.std.specs.List.{flat_map}
 use Rattle.std.specs.Str.{bytes_eq}
 use Rattle.uuid.specs.Text.{hyphenated_text, lower}
+use Rattle.pkg_world.specs.Each.{then_ok}
 use Rattle.pkg_world.specs.Path.{Path, path_text}
 use Rattle.pkg_world.specs.Tree.{Files}
 use Rattle.pkg_world.specs.declared.place.Place.{Place}
@@ -13,7 +14,7 @@ use Rattle.manifest_file.specs.Saying.{SaidStanza}
 use Rattle.manifest_file.specs.declared.origin.Origin.{Origin}
 use Rattle.manifest_file.specs.declared.origin.Origin.TheVariants.{Tree, Path as PathOrigin, Repo, Std}
 use Rattle.registry_tables.specs.Registries.{packed}
-use Rattle.home_commands.specs.Home.{Both, then_due, both_in}
+use Rattle.home_commands.specs.Home.{Both, both_in}
 use Rattle.command_answers.specs.declared.status.Status.{Status}
 
 -- a version as it is printed; a stanza may have none
@@ -75,4 +76,4 @@ abbrev pub status_of : Files → Place → Bool → Both → Result (List ℕ) S
 status_of files place all both = Ok (status_text all both (packed files place.depots.items))
 
 abbrev pub status_due : Files → Place → Bool → Result (List ℕ) Status
-status_due files place all = then_due (both_in files place) (status_of files place all)
+status_due files place all = then_ok (both_in files place) (status_of files place all)

@@ -5,6 +5,7 @@ use Rattle.std.specs.Ordering.{nat_cmp, is_gt}
 use Rattle.std.specs.Cmp.Lexicographic.{slice_cmp}
 use Rattle.std.specs.Str.{bytes_eq}
 use Rattle.uuid.specs.Text.{hyphenated_text, lower}
+use Rattle.pkg_world.specs.Each.{then_ok}
 use Rattle.pkg_world.specs.Path.{Path, joined, pieces_at}
 use Rattle.pkg_world.specs.Tree.{Files}
 use Rattle.pkg_world.specs.TreeIds.{tree_text}
@@ -14,7 +15,7 @@ use Rattle.manifest_file.specs.declared.origin.Origin.{Origin}
 use Rattle.manifest_file.specs.declared.origin.Origin.TheVariants.{Tree, Path as PathOrigin, Repo, Std}
 use Rattle.depot_hash.specs.Folders.{folder_id, NoId, not_there, past, first_past}
 use Rattle.depot_hash.specs.Installed.{installed_in}
-use Rattle.home_commands.specs.Home.{Both, then_due, both_in}
+use Rattle.home_commands.specs.Home.{Both, both_in}
 use Rattle.command_answers.specs.declared.status.Difference.TheVariants.{Trees}
 use Rattle.command_answers.specs.declared.status.Status.{Status}
 use Rattle.command_answers.specs.declared.status.Status.TheVariants.{NoSource, AmbiguousName, Limit, Differs, NotInManifest}
@@ -95,4 +96,4 @@ abbrev pub verify_of : Files → Place → List ℕ → Option (List ℕ) → Bo
 verify_of files place name list both = verify_bearers files place.depots.items name list (bearers_in name both.manifest.stanzas)
 
 abbrev pub verify_due : Files → Place → List ℕ → Option (List ℕ) → Result (List ℕ) Status
-verify_due files place name list = then_due (both_in files place) (verify_of files place name list)
+verify_due files place name list = then_ok (both_in files place) (verify_of files place name list)

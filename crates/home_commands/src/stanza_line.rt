@@ -7,8 +7,8 @@ ghost use Rattle.manifest_file.specs.Said.{said_stanza};
 ghost use Rattle.home_commands.specs.StanzaPlaces.{place_in, stanza_at};
 ghost use Rattle.home_commands.specs.StatusDue as spec;
 
-use command_answers::plain_uuid;
 use crate::stanza_places::{Places, places_of, stanza_with};
+use command_answers::plain_uuid;
 use jl_versions::Version;
 use manifest_file::{Origin, Stanza};
 use pkg_world::{Name, NormPath};

@@ -13,7 +13,10 @@ use std::alloc::{AllocError, Global};
 
 /// The lines of `status`, or its refusal: the project's file, then for each dependency, or with `all` for each stanza of
 /// the manifest, its name, identifier, version and origin, and last the packed registries of the depots, which are not
-/// read.
+/// read. (own rule)
+///
+/// Refusals: MissingFile where the project file is not there; BadFile where it or the manifest is refused; ReadFault
+/// where the store fails; want of memory. A manifest that is not there is empty.
 pub fn status_lines<S: Store>(
     alloc: Global,
     all: bool,

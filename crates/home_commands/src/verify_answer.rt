@@ -30,6 +30,11 @@ pub(crate) enum Bearers {
 /// The line of `verify`, or its refusal. The one stanza of the name that has a tree is looked for in the manifest of the
 /// active project, its folder in the depots, and the folder's tree is compared with the stanza's. The files that can be
 /// run are those of the list, whose paths are joined by `:` and taken from the folder. (Git's object format.)
+///
+/// Refusals: MissingFile where the project file is not there, BadFile where it or the manifest is refused; NotInManifest
+/// where no stanza with a tree has the name, AmbiguousName where several have it; NoSource where no depot has the tree;
+/// Limit where its folder is too deep or has too many files; Differs where the trees are not the same; ReadFault where the
+/// store fails; want of memory.
 pub fn verify<S: Store>(
     alloc: Global,
     name: &Name,

@@ -1,11 +1,12 @@
 -- What registries say of a package (Pkg, registries): the registries that were found, and the tables of those that list it.
-use Rattle.std.specs.Prelude.{◌≡◌, ℕ, List, [], ◌∷◌, ◌++◌, map, Option, Some, None, Result, Ok, Err, MatchResult}
+use Rattle.std.specs.Prelude.{◌≡◌, ℕ, List, [], ◌∷◌, map, Option, Some, None, Result, Ok, Err, MatchResult}
+use Rattle.pkg_world.specs.Each.{read_each, onto}
 use Rattle.pkg_world.specs.Path.{Path}
 use Rattle.pkg_world.specs.Tree.{Files}
 use Rattle.pkg_world.specs.Listing.{Listing}
 use Rattle.compat_spec.specs.Listing.{Listing as Room}
 use Rattle.compat_spec.specs.Ranges.{Ranged}
-use Rattle.registry_tables.specs.Answers.{Read, then_read, Refuses}
+use Rattle.registry_tables.specs.Answers.{Read, Refuses}
 use Rattle.registry_tables.specs.Registry.{Registered, registry_in}
 use Rattle.registry_tables.specs.Rows.{Rows, rows_in}
 use Rattle.registry_tables.specs.declared.fault.RegFault.{RegFault}
@@ -36,11 +37,6 @@ kept_rows rows = record {
   weakcompat = roomless (map kept_entry rows.weak.compat);
 }
 
--- what each of these gives, in their order; the first file that is missing or refused counts
-abbrev pub read_each : {S T : Type 0} → (S → Read (List T)) → List S → Read (List T)
-read_each read [] = Ok []
-read_each read (x ∷ xs) = then_read (λ first. then_read (λ rest. Ok (first ++ rest)) (read_each read xs)) (read x)
-
 abbrev pub alone : {T : Type 0} → Read T → Read (List T)
 alone (Ok value) = Ok (value ∷ [])
 alone (Err unusable) = Err unusable
@@ -67,11 +63,6 @@ tables_at files uuid registry = where_listed (rows_in files (kept registry) uuid
 -- the tables of a package in the registries that list it
 abbrev pub tables_in : Files → List Registered → List ℕ → Read (List Rows)
 tables_in files registries uuid = read_each (tables_at files uuid) registries
-
--- what is read, behind what there is
-abbrev pub onto : {T : Type 0} → List T → Read (List T) → Read (List T)
-onto old (Ok more) = Ok (old ++ more)
-onto old (Err unusable) = Err unusable
 
 -- what is read was put behind what there was
 abbrev pub Adds : {T : Type 0} → Read (List T) → List T → List T → Result (Unit {0}) RegFault → Type 0

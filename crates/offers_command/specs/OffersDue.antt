@@ -4,18 +4,18 @@
 use Rattle.std.specs.Prelude.{ℕ, Bool, List, [], ◌∷◌, map, filter, fold, Result, Ok, Err}
 use Rattle.std.specs.BTreeSet.{insert_key}
 use Rattle.std.specs.Str.{bytes_eq}
+use Rattle.pkg_world.specs.Each.{then_ok, read_each}
 use Rattle.pkg_world.specs.Path.{Path}
 use Rattle.pkg_world.specs.Tree.{Files}
 use Rattle.pkg_world.specs.declared.place.Place.{Place}
-use Rattle.registry_tables.specs.Answers.{Read, missing, bad, then_read}
+use Rattle.registry_tables.specs.Answers.{Read, missing, bad}
 use Rattle.registry_tables.specs.Registries.{folders}
 use Rattle.registry_tables.specs.Registry.{Registered}
 use Rattle.registry_tables.specs.Row.{by_bytes}
 use Rattle.registry_tables.specs.Rows.{Rows}
 use Rattle.registry_tables.specs.declared.package_list.Package.{Package}
-use Rattle.home_commands.specs.Home.{then_due}
 use Rattle.offers_command.specs.OfferLines.{package_lines}
-use Rattle.offers_command.specs.OfferTables.{read_each, registries_in, tables_in}
+use Rattle.offers_command.specs.OfferTables.{registries_in, tables_in}
 use Rattle.command_answers.specs.declared.status.Status.{Status}
 use Rattle.command_answers.specs.declared.status.Status.TheVariants.{MissingFile, BadFile, UnknownName}
 
@@ -43,7 +43,7 @@ abbrev pub uuids_named : List ℕ → List Registered → List (List ℕ)
 uuids_named name registries = fold (put_uuids name) [] registries
 
 abbrev pub some_lines : Read (List Rows) → Read (List ℕ)
-some_lines tables = then_read (λ found. Ok (package_lines found)) tables
+some_lines tables = then_ok tables (λ found. Ok (package_lines found))
 
 -- the lines of a package, over all registries
 abbrev pub package_in : Files → List Registered → List ℕ → Read (List ℕ)
@@ -61,7 +61,7 @@ abbrev pub of_registries : Files → List ℕ → List Registered → Result (Li
 of_registries files name registries = of_uuids files name registries (uuids_named name registries)
 
 abbrev pub of_folders : Files → List ℕ → List Path → Result (List ℕ) Status
-of_folders files name paths = then_due (told_read (registries_in files paths)) (of_registries files name)
+of_folders files name paths = then_ok (told_read (registries_in files paths)) (of_registries files name)
 
 abbrev pub offers_due : Files → Place → List ℕ → Result (List ℕ) Status
 offers_due files place name = of_folders files name (folders files place.depots.items)

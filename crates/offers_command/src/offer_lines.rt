@@ -5,9 +5,9 @@ ghost use Rattle.registry_tables.specs.Row.{allowed_in, ranges_in};
 ghost use Rattle.offers_command.specs.OfferLines as spec;
 ghost use Rattle.offers_command.specs.OfferTables.{kept_rows};
 
-use command_answers::plain_uuid;
 use crate::offer_merge::{Offer, Offers, merged};
 use crate::offer_tables::{Tables, row_of};
+use command_answers::plain_uuid;
 use compat_spec::{Allowed, Range};
 use jl_versions::Version;
 use pkg_world::Name;

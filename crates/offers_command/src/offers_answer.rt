@@ -16,6 +16,11 @@ use uuid::Uuid;
 
 /// The lines of `offers`, or its refusal: the registries are read, in the order of the depots and then of their folders'
 /// names, and then the tables of each package that some registry lists under the name, in the order of the identifiers.
+/// (Pkg, registries; the order and the lines are own rules.)
+///
+/// Refusals: MissingFile or BadFile of the first file that has to be there and isn't, or that is refused, in the order of
+/// reading; UnknownName where all registries can be read and none lists the name; ReadFault where the store fails; want
+/// of memory.
 pub fn offers<S: Store>(
     alloc: Global,
     name: &Name,

@@ -1,5 +1,6 @@
 use Rattle.std.proofs.Common.{◌≡◌, ◌≤◌, IfSome, drop}
-use Rattle.offers_command.specs.OfferTables.{registries_in, onto}
+use Rattle.pkg_world.specs.Each.{onto}
+use Rattle.offers_command.specs.OfferTables.{registries_in}
 use Rattle.offers_command.proofs.offer_tables.add_registries.Given as goal
 
 abbrev pub invariant-folders : goal.invariant-folders

@@ -1,5 +1,6 @@
 use Rattle.std.proofs.Common.{◌≡◌, ◌≤◌, IfSome, drop}
-use Rattle.offers_command.specs.OfferTables.{tables_in, onto}
+use Rattle.pkg_world.specs.Each.{onto}
+use Rattle.offers_command.specs.OfferTables.{tables_in}
 use Rattle.offers_command.proofs.offer_tables.add_tables.Given as goal
 
 abbrev pub invariant-registries : goal.invariant-registries

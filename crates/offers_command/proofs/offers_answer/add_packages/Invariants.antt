@@ -1,5 +1,5 @@
 use Rattle.std.proofs.Common.{◌≡◌, ◌≤◌, IfSome, drop, string_bytes}
-use Rattle.offers_command.specs.OfferTables.{onto}
+use Rattle.pkg_world.specs.Each.{onto}
 use Rattle.offers_command.specs.OffersDue.{packages_in}
 use Rattle.offers_command.proofs.offers_answer.add_packages.Given as goal
 
