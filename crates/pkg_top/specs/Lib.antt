@@ -1,16 +1,4 @@
-pub mod Lines
-pub mod Pieces
-pub mod Words
-pub mod OfferLines
-pub mod OfferTables
-pub mod OffersDue
-pub mod StanzaPlaces
-pub mod StatusDue
-pub mod VerifyDue
-pub mod VerifySteps
+pub mod WhichDue
 pub mod Due
-pub mod Answers
-pub mod Home
-pub mod Seen
 pub mod Placing
 pub mod PlaceViews

@@ -3,6 +3,7 @@ use Rattle.std.specs.Prelude.{◌≡◌, ℕ, ◌==◌, if◌then◌else◌, Lis
 use Rattle.jl_versions.specs.Meant.{version_meant}
 use Rattle.jl_versions.specs.Triple.{triple_of}
 use Rattle.jl_versions.specs.declared.version.Version.{Version}
+use Rattle.pkg_world.specs.Each.{then_ok, onto}
 use Rattle.pkg_world.specs.Path.{Path, joined, pieces_at}
 use Rattle.pkg_world.specs.declared.place.Place.{Place}
 use Rattle.pkg_top.specs.declared.place.PlaceFault.{PlaceFault}
@@ -12,10 +13,6 @@ use Rattle.pkg_top.specs.declared.place.PlaceFault.TheVariants.{BadPath, BadJuli
 abbrev pub Placed : Type 0 → Type 0
 Placed T = Result T (List ℕ)
 
-abbrev pub then_placed : {S T : Type 0} → Placed S → (S → Placed T) → Placed T
-then_placed (Ok value) next = next value
-then_placed (Err text) next = Err text
-
 abbrev pub or_text : List ℕ → Option Path → Placed Path
 or_text text None = Err text
 or_text text (Some path) = Ok path
@@ -24,23 +21,19 @@ or_text text (Some path) = Ok path
 abbrev pub path_from : Path → List ℕ → Placed Path
 path_from base text = or_text text (joined base text)
 
-abbrev pub after : List Path → Placed (List Path) → Placed (List Path)
-after found (Ok more) = Ok (found ++ more)
-after found (Err text) = Err text
-
 -- the depot of one piece of a depot path; an empty piece has none
 abbrev pub depot_of : Path → List ℕ → Placed (List Path)
-depot_of cwd piece = if length piece == 0 then Ok [] else then_placed (path_from cwd piece) (λ path. Ok (path ∷ []))
+depot_of cwd piece = if length piece == 0 then Ok [] else then_ok (path_from cwd piece) (λ path. Ok (path ∷ []))
 
 -- the depots of a depot path's pieces, in order
 abbrev pub depots_of : Path → List (List ℕ) → Placed (List Path)
 depots_of cwd [] = Ok []
-depots_of cwd (piece ∷ more) = then_placed (depot_of cwd piece) (λ found. after found (depots_of cwd more))
+depots_of cwd (piece ∷ more) = then_ok (depot_of cwd piece) (λ found. onto found (depots_of cwd more))
 
 -- without a depot path `.julia` in the home folder is the one depot, and without a home folder there is none
 abbrev pub home_depot : Path → Option (List ℕ) → Placed (List Path)
 home_depot cwd None = Ok []
-home_depot cwd (Some home) = then_placed (path_from cwd home) (λ path. Ok ((path ++ codes ".julia" ∷ []) ∷ []))
+home_depot cwd (Some home) = then_ok (path_from cwd home) (λ path. Ok ((path ++ codes ".julia" ∷ []) ∷ []))
 
 abbrev pub depots_from : Path → Option (List ℕ) → Option (List ℕ) → Placed (List Path)
 depots_from cwd home None = home_depot cwd home
@@ -48,7 +41,7 @@ depots_from cwd home (Some text) = depots_of cwd (pieces_at 58 text)
 
 abbrev pub stdlib_from : Path → Option (List ℕ) → Placed (Option Path)
 stdlib_from cwd None = Ok None
-stdlib_from cwd (Some text) = then_placed (path_from cwd text) (λ path. Ok (Some path))
+stdlib_from cwd (Some text) = then_ok (path_from cwd text) (λ path. Ok (Some path))
 
 abbrev pub triple_meant : Result Version ℕ → Result (List ℕ) ℕ
 triple_meant (Ok version) = Ok (triple_of version)
@@ -76,9 +69,9 @@ pub record Paths : Type 0 where
 -- the paths of a place, or the first text that is no path
 abbrev pub paths_from : List ℕ → Option (List ℕ) → Option (List ℕ) → Option (List ℕ) → Placed Paths
 paths_from cwd home depots stdlib =
-    then_placed (path_from [] cwd) λ folder.
-    then_placed (depots_from folder home depots) λ found.
-    then_placed (stdlib_from folder stdlib) λ library.
+    then_ok (path_from [] cwd) λ folder.
+    then_ok (depots_from folder home depots) λ found.
+    then_ok (stdlib_from folder stdlib) λ library.
     Ok (record { cwd = folder; depots = found; stdlib = library })
 
 abbrev pub paths_of : Place → Paths

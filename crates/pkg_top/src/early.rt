@@ -1,10 +1,11 @@
 //! What is refused by the words alone.
 ghost use Rattle.std.specs.Prelude.{◌≡◌, IfErr};
-ghost use Rattle.pkg_top.specs.Seen.{AsksFor, texts};
-ghost use Rattle.pkg_top.specs.Answers.{IsUnprinted};
+ghost use Rattle.command_words.specs.Seen.{texts};
+ghost use Rattle.pkg_top.specs.Due.{AsksFor};
+ghost use Rattle.command_answers.specs.Answers.{IsUnprinted};
 
-use crate::status::Status;
-use crate::words::{Asked, read_words};
+use command_answers::Status;
+use command_words::{Asked, read_words};
 use std::alloc::Global;
 
 /// What the words ask for, or why they are refused.

@@ -1,17 +1,16 @@
 //! The top call.
 ghost use Rattle.std.specs.Prelude.{◌≡◌, ◌≤◌, IfSome, IfErr, string_bytes};
 ghost use Rattle.pkg_top.specs.Due.{due as answer_due, early_due};
-ghost use Rattle.pkg_top.specs.Lines.{status_line as line_of};
-ghost use Rattle.pkg_top.specs.Seen.{texts};
-ghost use Rattle.pkg_top.specs.Answers.{Answers, AnswersTimely, IsTimely, ReadFaultRose, SinkFaultRose, Prints, PrintsOnlyAtOk, IsPrinted, IsRefusal, IsUnprinted, Tells, TellsLine};
+ghost use Rattle.command_answers.specs.Lines.{status_line as line_of};
+ghost use Rattle.command_words.specs.Seen.{texts};
+ghost use Rattle.command_answers.specs.Answers.{Answers, AnswersTimely, IsTimely, ReadFaultRose, SinkFaultRose, Prints, PrintsOnlyAtOk, IsPrinted, IsRefusal, IsUnprinted, Tells, TellsLine};
 
 use crate::early::asked_for;
-use crate::offers::offers;
-use crate::status::{Ended, Status, Told, status_line};
-use crate::status_lines::status_lines;
-use crate::verify::verify;
 use crate::which::which;
-use crate::words::Asked;
+use command_answers::{Ended, Status, Told, status_line};
+use command_words::Asked;
+use home_commands::{status_lines, verify};
+use offers_command::offers;
 use pkg_world::{Place, PutAnswer, Sink, Store};
 use std::alloc::Global;
 

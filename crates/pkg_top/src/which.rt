@@ -1,16 +1,15 @@
 //! `which`: the identity and the entry file of a name from a context.
-ghost use Rattle.std.specs.Prelude.{◌≡◌, ◌≤◌, ℕ, List, Err, true, IfSome, IfOk, IfErr, string_bytes};
+ghost use Rattle.std.specs.Prelude.{◌≡◌, ◌≤◌, ◌++◌, ◌∷◌, [], ℕ, List, Err, true, codes, IfSome, IfOk, IfErr, string_bytes};
 ghost use Rattle.env_maps.specs.ByName.{is_among};
 ghost use Rattle.import_lookup.specs.Loading.{import_in, serves};
-ghost use Rattle.pkg_top.specs.Due.{which_due, which_of, told_import};
-ghost use Rattle.pkg_top.specs.Lines.{found_line as line_of_found};
-ghost use Rattle.pkg_top.specs.Answers.{Answers, Refuses, ReadFaultRose, NoFault, IsLate, IsUnprinted};
+ghost use Rattle.pkg_top.specs.WhichDue.{which_due, which_of, told_import, found_line as line_of_found};
+ghost use Rattle.command_answers.specs.Answers.{Answers, Refuses, ReadFaultRose, NoFault, IsLate, IsUnprinted};
 
-use crate::status::{Status, found_line};
+use command_answers::{Status, uuid_text};
 use env_maps::{Context, EnvFault, Id};
 use import_lookup::{ImportAnswer, Stack, import, names_of};
 use pkg_world::{Duplicate, Name, Names, NormPath, Place, Store};
-use std::alloc::Global;
+use std::alloc::{AllocError, Global};
 
 /// The line of `which`, or its refusal: the import of a name from a context over the environments of the load path.
 /// (Julia manual, Code Loading.)
@@ -101,4 +100,18 @@ fn found(alloc: Global, id: &Id, path: &NormPath) -> Result<String, Status>
         Ok(line) => Ok(line),
         Err(_) => Err(Status::Memory),
     }
+}
+
+/// `NAME UUID PATH`.
+fn found_line(alloc: Global, id: &Id, path: &NormPath) -> Result<String, AllocError>
+    ensures { IfOk result (λ line. string_bytes line ≡ line_of_found id.now path.now) }
+{
+    let uuid = uuid_text(alloc, &id.uuid)?;
+    three_words(alloc, id.name.as_str(), uuid.as_str(), path.as_str())
+}
+
+fn three_words(alloc: Global, first: &str, second: &str, third: &str) -> Result<String, AllocError>
+    ensures { IfOk result (λ line. string_bytes line ≡ first.now ++ (codes " " ++ (second.now ++ (codes " " ++ (third.now ++ 10 ∷ []))))) }
+{
+    format!(in alloc; "{first} {second} {third}\n")
 }

@@ -1,5 +1,5 @@
 //! Examples of imports over load paths, package folders and contexts.
-use crate::tests::{File, fill, told};
+use crate::run_tests::{File, fill, told};
 use crate::{PlaceFault, place_from};
 use env_maps::{Context, Id, ProjectEnv};
 use pkg_world::{MemStore, Name, NormPath, PathFault, Place, StoreCall};

@@ -1,6 +1,6 @@
 //! Examples of what words ask for.
-use crate::status::uuid_text;
-use crate::words::{Asked, read_words};
+use command_answers::uuid_text;
+use command_words::{Asked, read_words};
 use env_maps::{Context, Id};
 use pkg_world::Name;
 use std::alloc::{AllocError, Global};

@@ -1,4 +1,4 @@
-use Rattle.pkg_top.proofs.Endings.{unprinted_refusal, unprinted_sink}
+use Rattle.command_answers.proofs.Endings.{unprinted_refusal, unprinted_sink}
 use Rattle.pkg_top.proofs.top.run.Goals as goal
 
 pub refuse-requires : goal.refuse-requires

@@ -1,0 +1,212 @@
+//! How a command ends.
+ghost use Rattle.std.specs.Prelude.{◌≡◌, ◌++◌, ◌∷◌, [], Some, codes, IfOk, string_bytes};
+ghost use Rattle.std.specs.Fmt.{decimal};
+ghost use Rattle.pkg_world.specs.Path.{path_text};
+ghost use Rattle.pkg_world.specs.TreeIds.{tree_text};
+ghost use Rattle.command_answers.specs.Lines.{code_of, status_line as line_of, error_line as line_with, cause_text as text_of_cause, uuid_text as text_of_uuid, limit_text as text_of_limit, difference_text as text_of_difference, two};
+
+use crate::cause_line::{cause_text, number_text, plain_uuid, two_words};
+use pkg_world::{Cause, LimitKind, Name, NormPath, Text, TreeId};
+use std::alloc::{AllocError, Global};
+use uuid::Uuid;
+
+/// How a command ended, and whether its error line was told.
+#[derive(Debug, Drop)]
+pub struct Ended {
+    pub status: Status,
+    pub told: Told,
+}
+
+/// Whether the error line was printed.
+#[derive(Debug, Drop)]
+pub enum Told {
+    /// Whole; also where there was none to print.
+    Whole,
+    /// The sink of errors failed, and got a prefix of the line.
+    Failed,
+    /// There was no memory, and the sink of errors got nothing.
+    Memory,
+}
+
+/// What is not the same.
+#[derive(Debug, Drop)]
+pub enum Difference {
+    /// The tree that a stanza names, and that of the installed folder.
+    Trees(TreeId, TreeId),
+}
+
+/// The status of a command.
+#[derive(Debug, Drop)]
+pub enum Status {
+    /// The answer is printed.
+    Ok,
+    /// The words break the rules: the command word, or `-` where there is none.
+    BadWords(Text),
+    /// A file that the command must have is not there.
+    MissingFile(NormPath),
+    /// The bytes of this file are refused.
+    BadFile(NormPath, Cause),
+    /// No package has this name here.
+    NoIdentity(Name),
+    /// The package of this identifier has no entry file.
+    NoSource(Option<Uuid>),
+    /// The outside failed at this path.
+    ReadFault(NormPath),
+    /// No registry lists this name.
+    UnknownName(Name),
+    /// A name that two packages have, with their identifiers, the lesser first.
+    AmbiguousName(Uuid, Uuid),
+    /// A count passes this limit.
+    Limit(LimitKind, u64),
+    /// What was compared is not the same.
+    Differs(Difference),
+    /// No stanza of the manifest has this name.
+    NotInManifest(Name),
+    /// This version does not have that yet.
+    NotBuilt(Text),
+    /// There was no memory.
+    Memory,
+    /// The answer could not be printed.
+    SinkFault,
+}
+
+impl Status {
+    /// The exit code of the program.
+    pub fn code(&self) -> u8
+        ensures { result ≡ code_of self.now }
+    {
+        match self {
+            Status::Ok => 0,
+            Status::BadWords(_) => 2,
+            Status::MissingFile(_) => 3,
+            Status::BadFile(..) => 3,
+            Status::NoIdentity(_) => 4,
+            Status::NoSource(_) => 5,
+            Status::ReadFault(_) => 8,
+            Status::UnknownName(_) => 10,
+            Status::AmbiguousName(..) => 11,
+            Status::Limit(..) => 12,
+            Status::Differs(_) => 13,
+            Status::NotInManifest(_) => 14,
+            Status::Memory => 15,
+            Status::SinkFault => 16,
+            Status::NotBuilt(_) => 17,
+        }
+    }
+}
+
+impl From<AllocError> for Status {
+    ghost use Rattle.command_answers.specs.declared.status.Status.TheVariants.{Memory};
+
+    ghost from_gives = { λ _ status. status ≡ Memory };
+
+    fn from(_none: AllocError) -> Status {
+        Status::Memory
+    }
+}
+
+/// The line of a status that is not Ok, with its newline: `error`, the code and the name of the status, and what it
+/// carries. (own rule) The one error is want of memory.
+pub fn status_line(alloc: Global, status: &Status) -> Result<String, AllocError>
+    ensures { IfOk result (λ line. string_bytes line ≡ line_of status.now) }
+{
+    match status {
+        Status::Ok => Ok(String::new(alloc)),
+        Status::BadWords(word) => error_line(alloc, "2 BadWords", word.as_str()),
+        Status::MissingFile(path) => error_line(alloc, "3 MissingFile", path.as_str()),
+        Status::BadFile(path, cause) => bad_file_line(alloc, path, cause),
+        Status::NoIdentity(name) => error_line(alloc, "4 NoIdentity", name.as_str()),
+        Status::NoSource(uuid) => no_source_line(alloc, uuid),
+        Status::ReadFault(path) => error_line(alloc, "8 ReadFault", path.as_str()),
+        Status::UnknownName(name) => error_line(alloc, "10 UnknownName", name.as_str()),
+        Status::AmbiguousName(first, second) => ambiguous_line(alloc, first, second),
+        Status::Limit(kind, count) => limit_line(alloc, kind, *count),
+        Status::Differs(difference) => differs_line(alloc, difference),
+        Status::NotInManifest(name) => error_line(alloc, "14 NotInManifest", name.as_str()),
+        Status::NotBuilt(word) => error_line(alloc, "17 NotBuilt", word.as_str()),
+        Status::Memory => String::from_str(alloc, "error 15 Memory\n"),
+        Status::SinkFault => String::from_str(alloc, "error 16 SinkFault\n"),
+    }
+}
+
+fn error_line(alloc: Global, head: &str, carried: &str) -> Result<String, AllocError>
+    ensures { IfOk result (λ line. string_bytes line ≡ line_with head.now carried.now) }
+{
+    format!(in alloc; "error {head} {carried}\n")
+}
+
+fn bad_file_line(alloc: Global, path: &NormPath, cause: &Cause) -> Result<String, AllocError>
+    ensures { IfOk result (λ line. string_bytes line ≡ line_with (codes "3 BadFile") (two (path_text path.now) (text_of_cause cause.now))) }
+{
+    let cause = cause_text(alloc, cause)?;
+    two_carried(alloc, "3 BadFile", path.as_str(), cause.as_str())
+}
+
+/// The line of a status that carries two values.
+fn two_carried(alloc: Global, head: &str, first: &str, second: &str) -> Result<String, AllocError>
+    ensures { IfOk result (λ line. string_bytes line ≡ line_with head.now (two first.now second.now)) }
+{
+    let carried = two_words(alloc, first, second)?;
+    error_line(alloc, head, carried.as_str())
+}
+
+fn ambiguous_line(alloc: Global, first: &Uuid, second: &Uuid) -> Result<String, AllocError>
+    ensures { IfOk result (λ line. string_bytes line ≡ line_with (codes "11 AmbiguousName") (two (text_of_uuid (Some first.now)) (text_of_uuid (Some second.now)))) }
+{
+    let first = plain_uuid(alloc, first)?;
+    let second = plain_uuid(alloc, second)?;
+    two_carried(alloc, "11 AmbiguousName", first.as_str(), second.as_str())
+}
+
+fn limit_line(alloc: Global, kind: &LimitKind, count: u64) -> Result<String, AllocError>
+    ensures { IfOk result (λ line. string_bytes line ≡ line_with (codes "12 Limit") (two (text_of_limit kind.now) (decimal count))) }
+{
+    let count = number_text(alloc, count)?;
+    two_carried(alloc, "12 Limit", limit_text(kind), count.as_str())
+}
+
+fn limit_text(kind: &LimitKind) -> &'static str
+    ensures { result.now ≡ text_of_limit kind.now }
+{
+    match kind {
+        LimitKind::Packages => "Packages",
+        LimitKind::States => "States",
+        LimitKind::Bits => "Bits",
+        LimitKind::Cells => "Cells",
+        LimitKind::TreeDepth => "TreeDepth",
+        LimitKind::TreeFiles => "TreeFiles",
+    }
+}
+
+fn differs_line(alloc: Global, difference: &Difference) -> Result<String, AllocError>
+    ensures { IfOk result (λ line. string_bytes line ≡ line_with (codes "13 Differs") (text_of_difference difference.now)) }
+{
+    match difference {
+        Difference::Trees(wanted, found) => trees_line(alloc, wanted, found),
+    }
+}
+
+fn trees_line(alloc: Global, wanted: &TreeId, found: &TreeId) -> Result<String, AllocError>
+    ensures { IfOk result (λ line. string_bytes line ≡ line_with (codes "13 Differs") (two (tree_text wanted.now) (tree_text found.now))) }
+{
+    let wanted = wanted.text(alloc)?;
+    let found = found.text(alloc)?;
+    two_carried(alloc, "13 Differs", wanted.as_str(), found.as_str())
+}
+
+fn no_source_line(alloc: Global, uuid: &Option<Uuid>) -> Result<String, AllocError>
+    ensures { IfOk result (λ line. string_bytes line ≡ line_with (codes "5 NoSource") (text_of_uuid uuid.now)) }
+{
+    let text = uuid_text(alloc, uuid)?;
+    error_line(alloc, "5 NoSource", text.as_str())
+}
+
+/// An identifier in lower case with hyphens, nil as `-`. The one error is want of memory.
+pub fn uuid_text(alloc: Global, uuid: &Option<Uuid>) -> Result<String, AllocError>
+    ensures { IfOk result (λ text. string_bytes text ≡ text_of_uuid uuid.now) }
+{
+    match uuid {
+        Some(uuid) => plain_uuid(alloc, uuid),
+        None => String::from_str(alloc, "-"),
+    }
+}

@@ -1,0 +1,5 @@
+pub mod Home
+pub mod StanzaPlaces
+pub mod StatusDue
+pub mod VerifyDue
+pub mod VerifySteps

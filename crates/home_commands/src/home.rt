@@ -1,0 +1,116 @@
+//! The two files of the active project.
+ghost use Rattle.std.specs.Prelude.{◌≡◌, ◌≤◌, Ok, IfSome, IfErr, MatchResult};
+ghost use Rattle.project_file.specs.Said.{said as said_project};
+ghost use Rattle.home_commands.specs.Home.{both_in, both_at as both_meant, both_with as with_meant, both_of as of_meant, seen_both};
+ghost use Rattle.command_answers.specs.Answers.{Refuses, ReadFaultRose, IsLate, IsUnprinted};
+
+use command_answers::Status;
+use env_maps::{EnvFault, active_project, manifest_at, manifest_path, project_at};
+use manifest_file::Manifest;
+use pkg_world::{NormPath, Place, Store};
+use project_file::Project;
+use std::alloc::Global;
+
+/// What the two files of the active project say, and where the project file is.
+#[derive(Drop)]
+pub(crate) struct Both {
+    pub file: NormPath,
+    pub project: Project,
+    pub manifest: Manifest,
+}
+
+/// The two files of the active project. A missing project file is MissingFile, a missing manifest is empty.
+pub(crate) fn both_files<S: Store>(
+    alloc: Global,
+    store: &mut S,
+    place: &Place,
+) -> Result<Both, Status>
+    ensures told { IfSome (S.files store.old) (λ all. MatchResult result (λ both. both_in all place.now ≡ Ok (seen_both both)) (Refuses (both_in all place.now))) }
+    ensures late { IfErr result IsLate }
+    ensures unprinted { IfErr result IsUnprinted }
+    ensures fault { IfErr result (ReadFaultRose (S.read_faults store.old) (S.read_faults store.new)) }
+    ensures files { S.files store.new ≡ S.files store.old }
+    ensures later { S.read_faults store.old ≤ S.read_faults store.new }
+    ensures other { S.write_faults store.new ≡ S.write_faults store.old }
+{
+    match active_project(alloc, store, place) {
+        Ok(file) => both_at(alloc, store, place, file),
+        Err(EnvFault::ReadFault(path)) => Err(Status::ReadFault(path)),
+        Err(EnvFault::BadFile(..)) => unreachable!(),
+        Err(EnvFault::Memory) => Err(Status::Memory),
+    }
+}
+
+fn both_at<S: Store>(
+    alloc: Global,
+    store: &mut S,
+    place: &Place,
+    file: NormPath,
+) -> Result<Both, Status>
+    ensures told { IfSome (S.files store.old) (λ all. MatchResult result (λ both. both_meant all file ≡ Ok (seen_both both)) (Refuses (both_meant all file))) }
+    ensures late { IfErr result IsLate }
+    ensures unprinted { IfErr result IsUnprinted }
+    ensures fault { IfErr result (ReadFaultRose (S.read_faults store.old) (S.read_faults store.new)) }
+    ensures files { S.files store.new ≡ S.files store.old }
+    ensures later { S.read_faults store.old ≤ S.read_faults store.new }
+    ensures other { S.write_faults store.new ≡ S.write_faults store.old }
+{
+    match project_at(alloc, store, &file) {
+        Ok(Some(project)) => both_with(alloc, store, place, file, project),
+        Ok(None) => Err(Status::MissingFile(file)),
+        Err(EnvFault::ReadFault(path)) => Err(Status::ReadFault(path)),
+        Err(EnvFault::BadFile(path, cause)) => Err(Status::BadFile(path, cause)),
+        Err(EnvFault::Memory) => Err(Status::Memory),
+    }
+}
+
+#[tactic(auto, unfolding(project_file::specs::Said::said))]
+fn both_with<S: Store>(
+    alloc: Global,
+    store: &mut S,
+    place: &Place,
+    file: NormPath,
+    project: Project,
+) -> Result<Both, Status>
+    ensures told { IfSome (S.files store.old) (λ all. MatchResult result (λ both. with_meant all file (said_project project) ≡ Ok (seen_both both)) (Refuses (with_meant all file (said_project project)))) }
+    ensures late { IfErr result IsLate }
+    ensures unprinted { IfErr result IsUnprinted }
+    ensures fault { IfErr result (ReadFaultRose (S.read_faults store.old) (S.read_faults store.new)) }
+    ensures files { S.files store.new ≡ S.files store.old }
+    ensures later { S.read_faults store.old ≤ S.read_faults store.new }
+    ensures other { S.write_faults store.new ≡ S.write_faults store.old }
+{
+    match manifest_path(alloc, store, place, &file, &project) {
+        Ok(path) => both_of(alloc, store, file, project, &path),
+        Err(EnvFault::ReadFault(path)) => Err(Status::ReadFault(path)),
+        Err(EnvFault::BadFile(path, cause)) => Err(Status::BadFile(path, cause)),
+        Err(EnvFault::Memory) => Err(Status::Memory),
+    }
+}
+
+fn both_of<S: Store>(
+    alloc: Global,
+    store: &mut S,
+    file: NormPath,
+    project: Project,
+    path: &NormPath,
+) -> Result<Both, Status>
+    ensures told { IfSome (S.files store.old) (λ all. MatchResult result (λ both. of_meant all file (said_project project) path.now ≡ Ok (seen_both both)) (Refuses (of_meant all file (said_project project) path.now))) }
+    ensures late { IfErr result IsLate }
+    ensures unprinted { IfErr result IsUnprinted }
+    ensures fault { IfErr result (ReadFaultRose (S.read_faults store.old) (S.read_faults store.new)) }
+    ensures files { S.files store.new ≡ S.files store.old }
+    ensures later { S.read_faults store.old ≤ S.read_faults store.new }
+    ensures other { S.write_faults store.new ≡ S.write_faults store.old }
+{
+    match manifest_at(alloc, store, path) {
+        Ok(manifest) => Ok(Both {
+            file,
+            project,
+            manifest,
+        }),
+        Err(EnvFault::ReadFault(path)) => Err(Status::ReadFault(path)),
+        Err(EnvFault::BadFile(path, cause)) => Err(Status::BadFile(path, cause)),
+        Err(EnvFault::Memory) => Err(Status::Memory),
+    }
+}

@@ -1,0 +1,3 @@
+pub mod OfferLines
+pub mod OfferTables
+pub mod OffersDue

@@ -1,0 +1,9 @@
+//! The command `offers`: what registries offer of the packages of a name.
+#![tactic(auto)]
+
+mod offer_lines;
+mod offer_merge;
+mod offer_tables;
+mod offers_answer;
+
+pub use offers_answer::offers;

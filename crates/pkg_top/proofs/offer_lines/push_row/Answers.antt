@@ -1,8 +1,0 @@
-use Rattle.pkg_top.specs.OfferTables.{kept_rows}
-use Rattle.pkg_top.proofs.OfferRows.{lines-of-row}
-use Rattle.pkg_top.proofs.offer_lines.push_row.Goals as goal
-
-pub returns : goal.returns
-returns c =
-    let same = lines-of-row (kept_rows c.args.tables.now) c.args.version.now c.in_ok-row.row c.in_ok-row.ensures in
-    rw (← same) c.push_made.ensures

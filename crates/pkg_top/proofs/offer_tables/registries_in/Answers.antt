@@ -1,9 +1,0 @@
-use Rattle.pkg_top.specs.OfferTables.{registries_in}
-use Rattle.pkg_top.proofs.OfferReads.{none-ok, none-err}
-use Rattle.pkg_top.proofs.offer_tables.registries_in.Goals as goal
-
-pub returns-in-Ok-clause-told : goal.returns-in-Ok-clause-told
-returns-in-Ok-clause-told g c = none-ok _ (λ all. registries_in all c.args.folders.now) _ _ c.make-list.ensures.items c.in-Ok.ensures.told
-
-pub returns-in-Err-clause-told : goal.returns-in-Err-clause-told
-returns-in-Err-clause-told g c = none-err _ (λ all. registries_in all c.args.folders.now) _ c.in-Err.fault c.make-list.ensures.items c.in-Err.ensures.told

@@ -1,9 +1,0 @@
-use Rattle.pkg_top.specs.OfferTables.{tables_in}
-use Rattle.pkg_top.proofs.OfferReads.{none-ok, none-err}
-use Rattle.pkg_top.proofs.offer_tables.tables_in.Goals as goal
-
-pub returns-in-Ok-clause-told : goal.returns-in-Ok-clause-told
-returns-in-Ok-clause-told g c = none-ok _ (λ all. tables_in all c.args.registries.now c.args.uuid.now) _ _ c.make-list.ensures.items c.in-Ok.ensures.told
-
-pub returns-in-Err-clause-told : goal.returns-in-Err-clause-told
-returns-in-Err-clause-told g c = none-err _ (λ all. tables_in all c.args.registries.now c.args.uuid.now) _ c.in-Err.fault c.make-list.ensures.items c.in-Err.ensures.told

@@ -1,6 +1,0 @@
-use Rattle.std.proofs.Common.{◌≡◌, drop, fold}
-use Rattle.pkg_top.specs.OffersDue as spec
-use Rattle.pkg_top.proofs.offers.uuids_named.Given as goal
-
-abbrev pub invariant-loop-registry : goal.invariant-loop-registry
-invariant-loop-registry l = spec.uuids_named l.name l.list ≡ fold (spec.put_uuids l.name) l.uuids.keys (drop l.registry-index l.list)
