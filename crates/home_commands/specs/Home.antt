@@ -8,9 +8,9 @@ use Rattle.pkg_world.specs.declared.place.Place.{Place}
 use Rattle.project_file.specs.Said as project
 use Rattle.manifest_file.specs.Saying as manifest
 use Rattle.manifest_file.specs.Said.{said as said_manifest}
-use Rattle.env_maps.specs.Active.{active_file}
-use Rattle.env_maps.specs.Files.{Read, at_file, project_in, manifest_in}
-use Rattle.env_maps.specs.ManifestPath.{manifest_path}
+use Rattle.project_places.specs.Active.{active_file}
+use Rattle.project_places.specs.Files.{Read, at_file, project_in, manifest_in}
+use Rattle.project_places.specs.ManifestPath.{manifest_path}
 use Rattle.home_commands.specs.declared.home.Both as code
 use Rattle.command_answers.specs.declared.status.Status.{Status}
 use Rattle.command_answers.specs.declared.status.Status.TheVariants.{MissingFile, BadFile}

@@ -4,12 +4,12 @@ use Rattle.std.specs.List.{flat_map}
 use Rattle.jl_versions.specs.declared.version.Version.{Version}
 use Rattle.compat_spec.specs.Listing.{Listing}
 use Rattle.compat_spec.specs.Ranges.{Ranged}
-use Rattle.registry_tables.specs.Sections.{bare}
+use Rattle.package_tables.specs.Sections.{bare}
 use Rattle.registry_tables.specs.Rows.{Rows, seen_rows}
-use Rattle.registry_tables.specs.Row.{IsRow, holds, counts, spotted, counting, put_to, by_spot, compat_of, deps_named, weak_named, some_ranges}
-use Rattle.registry_tables.specs.declared.expanding.Row.{Row}
-use Rattle.registry_tables.specs.declared.package_rows.Entry.{Entry}
-use Rattle.registry_tables.specs.declared.package_rows.PackageRows.{PackageRows}
+use Rattle.package_tables.specs.Row.{IsRow, holds, counts, spotted, counting, put_to, by_spot, compat_of, deps_named, weak_named, some_ranges}
+use Rattle.package_tables.specs.declared.expanding.Row.{Row}
+use Rattle.package_tables.specs.declared.package_rows.Entry.{Entry}
+use Rattle.package_tables.specs.declared.package_rows.PackageRows.{PackageRows}
 use Rattle.offers_command.specs.OfferTables.{kept_entry, kept_rows}
 use Rattle.offers_command.specs.OfferLines.{compat_line, entry_line, made_lines, row_lines}
 

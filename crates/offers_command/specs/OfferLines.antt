@@ -13,10 +13,10 @@ use Rattle.jl_versions.specs.Printing.{printed}
 use Rattle.jl_versions.specs.declared.version.Version.{Version}
 use Rattle.compat_spec.specs.Ranges.{Ranged}
 use Rattle.registry_tables.specs.Rows.{Rows}
-use Rattle.registry_tables.specs.Row.{deps_of, weak_of, compat_of, allowed_in}
-use Rattle.registry_tables.specs.declared.expanding.Row.{Row}
-use Rattle.registry_tables.specs.declared.package_rows.PackageRows.{PackageRows}
-use Rattle.registry_tables.specs.declared.package_rows.VersionRow.{VersionRow}
+use Rattle.package_tables.specs.Row.{deps_of, weak_of, compat_of, allowed_in}
+use Rattle.package_tables.specs.declared.expanding.Row.{Row}
+use Rattle.package_tables.specs.declared.package_rows.PackageRows.{PackageRows}
+use Rattle.package_tables.specs.declared.package_rows.VersionRow.{VersionRow}
 use Rattle.offers_command.specs.OfferTables.{kept_rows}
 
 -- a version that a registry lists, and that registry's tables

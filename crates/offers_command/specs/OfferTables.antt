@@ -11,8 +11,8 @@ use Rattle.registry_tables.specs.Registry.{Registered, registry_in}
 use Rattle.registry_tables.specs.Rows.{Rows, rows_in}
 use Rattle.registry_tables.specs.declared.fault.RegFault.{RegFault}
 use Rattle.registry_tables.specs.declared.package_list.Registry.{Registry}
-use Rattle.registry_tables.specs.declared.package_rows.Entry.{Entry}
-use Rattle.registry_tables.specs.declared.package_rows.PackageRows.{PackageRows}
+use Rattle.package_tables.specs.declared.package_rows.Entry.{Entry}
+use Rattle.package_tables.specs.declared.package_rows.PackageRows.{PackageRows}
 
 -- a list without spare room
 abbrev pub roomless : {T : Type 0} → List T → Listing T

@@ -11,7 +11,7 @@ use Rattle.pkg_world.specs.declared.place.Place.{Place}
 use Rattle.registry_tables.specs.Answers.{Read, missing, bad}
 use Rattle.registry_tables.specs.Registries.{folders}
 use Rattle.registry_tables.specs.Registry.{Registered}
-use Rattle.registry_tables.specs.Row.{by_bytes}
+use Rattle.package_tables.specs.Row.{by_bytes}
 use Rattle.registry_tables.specs.Rows.{Rows}
 use Rattle.registry_tables.specs.declared.package_list.Package.{Package}
 use Rattle.offers_command.specs.OfferLines.{package_lines}

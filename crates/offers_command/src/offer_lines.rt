@@ -1,7 +1,7 @@
 //! The lines of a package that registries offer.
 ghost use Rattle.std.specs.Prelude.{◌≡◌, ◌++◌, ◌∷◌, [], codes, map, IfOk, OnOk, string_bytes};
 ghost use Rattle.std.specs.List.{flat_map};
-ghost use Rattle.registry_tables.specs.Row.{allowed_in, ranges_in};
+ghost use Rattle.package_tables.specs.Row.{allowed_in, ranges_in};
 ghost use Rattle.offers_command.specs.OfferLines as spec;
 ghost use Rattle.offers_command.specs.OfferTables.{kept_rows};
 

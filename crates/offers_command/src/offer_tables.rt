@@ -1,7 +1,7 @@
 //! The registries of some folders, and the tables of a package in those that list it.
 ghost use Rattle.std.specs.Prelude.{◌≡◌, ◌≤◌, Ok, IfSome, IfOk, IfErr, MatchResult, option_map};
 ghost use Rattle.registry_tables.specs.Answers.{Refuses, ReadFaultRose};
-ghost use Rattle.registry_tables.specs.Row.{IsRow};
+ghost use Rattle.package_tables.specs.Row.{IsRow};
 ghost use Rattle.registry_tables.specs.Rows.{rows_in, seen_rows};
 ghost use Rattle.offers_command.specs.OfferTables as spec;
 ghost use Rattle.offers_command.specs.OfferTables.{Adds, kept, kept_rows};

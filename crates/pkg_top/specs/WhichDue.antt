@@ -6,7 +6,7 @@ use Rattle.pkg_world.specs.Tree.{Files}
 use Rattle.pkg_world.specs.declared.place.Place.{Place}
 use Rattle.env_maps.specs.declared.id.Context.{Context}
 use Rattle.env_maps.specs.declared.id.Id.{Id}
-use Rattle.env_maps.specs.Files.{Read}
+use Rattle.project_places.specs.Files.{Read}
 use Rattle.import_lookup.specs.declared.answer.ImportAnswer.{ImportAnswer}
 use Rattle.import_lookup.specs.declared.answer.ImportAnswer.TheVariants.{Found, NoIdentity, NoSource}
 use Rattle.import_lookup.specs.Loading.{import_in, names_of}

@@ -1,6 +1,6 @@
 use Rattle.std.proofs.Common.{◌≡◌, ◌++◌, drop, map, string_bytes}
 use Rattle.std.specs.List.{flat_map}
-use Rattle.registry_tables.specs.Row.{allowed_in}
+use Rattle.package_tables.specs.Row.{allowed_in}
 use Rattle.offers_command.specs.OfferLines as spec
 use Rattle.offers_command.proofs.offer_lines.push_compat.Given as goal
 
