@@ -1,5 +1,5 @@
 -- Package folders (Julia manual, Code Loading; the form of a bare file, and the identifiers that are made up, are ours).
-use Rattle.std.specs.Prelude.{ℕ, Bool, if◌then◌else◌, List, [], ◌∷◌, ◌++◌, take, codes, Option, Some, None, is_none, option_map, Result, Ok, Err}
+use Rattle.std.specs.Prelude.{ℕ, Bool, if◌then◌else◌, List, [], ◌∷◌, ◌++◌, take, codes, Option, Some, None, is_none, option_map, Ok}
 use Rattle.std.specs.Option.{option_and_then}
 use Rattle.sha1.specs.Sha1.{sha1}
 use Rattle.uuid.specs.Parts.{with_version, with_variant}

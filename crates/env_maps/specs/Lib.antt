@@ -3,7 +3,6 @@ pub mod Candidates
 pub mod Library
 pub mod Maps
 pub mod ThreeMaps
-
 pub use Rattle.project_places.specs.Active
 pub use Rattle.project_places.specs.Elements
 pub use Rattle.project_places.specs.Faults

@@ -1,5 +1,5 @@
 -- The standard libraries: folders of the standard library folder, each with a project file that has its identifier.
-use Rattle.std.specs.Prelude.{ℕ, List, Option, Some, None, Result, Ok, Err}
+use Rattle.std.specs.Prelude.{ℕ, List, Option, Some, None, Ok}
 use Rattle.std.specs.Option.{option_and_then}
 use Rattle.pkg_world.specs.Each.{then_ok}
 use Rattle.pkg_world.specs.Path.{Path, joined}

@@ -1,5 +1,5 @@
 //! A package of a package folder.
-ghost use Rattle.std.specs.Prelude.{◌≡◌, ◌≤◌, None, Some, IfSome, IfOk, IfErr, option_map};
+ghost use Rattle.std.specs.Prelude.{◌≡◌, ◌≤◌, None, Some, IfSome, IfErr, option_map};
 ghost use Rattle.project_file.specs.Said.{said as said_project};
 ghost use Rattle.project_places.specs.Active.{file_in as file_meant};
 ghost use Rattle.env_maps.specs.Candidates as spec;

@@ -1,5 +1,5 @@
 //! Stanzas whose paths rise above the root.
-ghost use Rattle.std.specs.Prelude.{◌≡◌, IfOk, IfErr, map};
+ghost use Rattle.std.specs.Prelude.{◌≡◌, IfOk, map};
 ghost use Rattle.std.specs.Option.{option_copied};
 ghost use Rattle.manifest_file.specs.Said.{said_stanza};
 ghost use Rattle.env_maps.specs.Maps as spec;

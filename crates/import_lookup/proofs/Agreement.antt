@@ -4,26 +4,25 @@ use Rattle.std.proofs.lemmas.Bool.{false≢true}
 use Rattle.std.proofs.lemmas.Slice.Eq.{bytes_eq-Decides}
 use Rattle.std.specs.Option.{option_and_then}
 use Rattle.std.specs.Str.{bytes_eq}
-use Rattle.pkg_world.specs.declared.place.Place.{Place}
 use Rattle.pkg_world.specs.Path.{Path}
 use Rattle.pkg_world.specs.Tree.{Files}
 use Rattle.env_maps.specs.declared.id.Id.{Id}
 use Rattle.env_maps.specs.declared.id.Context.{Context}
 use Rattle.env_maps.specs.declared.id.Context.TheVariants.{Top, Package}
 use Rattle.project_places.specs.Active.{or_next}
-use Rattle.env_maps.specs.ByName.{by_name, with_name, found_at, found_in, given, is_among}
+use Rattle.env_maps.specs.ByName.{by_name, with_name, found_in, given, is_among}
 use Rattle.env_maps.specs.Candidates.{Candidate, candidate, candidate_read, candidates_in, root_at, graph_at, path_at}
 use Rattle.pkg_world.specs.Each.{then_ok, read_each}
 use Rattle.project_places.specs.Files.{Read}
 use Rattle.env_maps.specs.Library.{library_in, library_read, library_uuid}
-use Rattle.env_maps.specs.Maps.{Env, own_or, dep_of, root_of, path_with, in_graph}
+use Rattle.env_maps.specs.Maps.{Env, own_or, dep_of, path_with, in_graph}
 use Rattle.env_maps.specs.ThreeMaps.{Maps, project_maps, folder_maps}
 use Rattle.import_lookup.specs.declared.loaded.Environment.{Environment}
 use Rattle.import_lookup.specs.declared.loaded.Environment.TheVariants as kinds
 use Rattle.import_lookup.specs.declared.loaded.Loaded.{Loaded}
 use Rattle.import_lookup.specs.declared.loaded.Loaded.TheVariants.{Project, Folder}
 use Rattle.import_lookup.specs.Import.{maps_of, first_of, identity, from_package, import_over, by_identity, by_path, root_in, path_in, dependency_in}
-use Rattle.import_lookup.specs.Loading.{loaded_of, all_loaded, loaded_maps, Held, with_library, held_of, stack_in, answered, import_in, serves}
+use Rattle.import_lookup.specs.Loading.{loaded_of, all_loaded, loaded_maps, serves}
 
 same_name : (a b : List ℕ) → bytes_eq a b ≡ true → a ≡ b
 same_name a b e = (bytes_eq-Decides a b).0 e

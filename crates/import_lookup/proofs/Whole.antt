@@ -14,7 +14,7 @@ use Rattle.import_lookup.specs.declared.loaded.Environment.{Environment}
 use Rattle.import_lookup.specs.declared.loaded.Loaded.{Loaded}
 use Rattle.import_lookup.specs.Import.{import_over, maps_of}
 use Rattle.import_lookup.specs.LoadPath.{environments}
-use Rattle.import_lookup.specs.Loading.{all_loaded, loaded_maps, Held, with_library, held_of, stack_in, answered, import_in, serves}
+use Rattle.import_lookup.specs.Loading.{all_loaded, loaded_maps, Held, held_of, stack_in, answered, import_in, serves}
 use Rattle.import_lookup.proofs.Agreement.{import_same}
 
 -- a stack that is refused refuses every import

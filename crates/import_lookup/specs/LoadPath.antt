@@ -2,7 +2,7 @@
 use Rattle.std.specs.Prelude.{ℕ, ◌==◌, if◌then◌else◌, List, [], ◌∷◌, length, codes, Option, Some, None, Ok}
 use Rattle.std.specs.List.{flat_map}
 use Rattle.pkg_world.specs.declared.place.Place.{Place}
-use Rattle.pkg_world.specs.Path.{Path, pieces_at}
+use Rattle.pkg_world.specs.Path.{pieces_at}
 use Rattle.pkg_world.specs.Tree.{Files}
 use Rattle.project_places.specs.declared.element.Element.{Element}
 use Rattle.project_places.specs.declared.element.Element.TheVariants.{Project, Folder, Nothing}

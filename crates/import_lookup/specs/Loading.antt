@@ -1,6 +1,6 @@
 -- What a stack reads: the files of its environments, and then, for some names, those of package folders and of standard
 -- libraries. All are read, needed or not.
-use Rattle.std.specs.Prelude.{◌≡◌, ℕ, Bool, true, false, ◌&&◌, if◌then◌else◌, List, [], ◌∷◌, Option, Some, None, Ok}
+use Rattle.std.specs.Prelude.{ℕ, Bool, true, if◌then◌else◌, List, [], ◌∷◌, Option, None, Ok}
 use Rattle.std.specs.Str.{bytes_eq}
 use Rattle.pkg_world.specs.declared.place.Place.{Place}
 use Rattle.pkg_world.specs.Path.{Path}

@@ -1,5 +1,5 @@
 //! The stack of environments.
-ghost use Rattle.std.specs.Prelude.{◌≡◌, ◌≤◌, ℕ, List, Ok, IfSome, IfOk, IfErr};
+ghost use Rattle.std.specs.Prelude.{◌≡◌, ◌≤◌, ℕ, List, Ok, IfSome, IfErr};
 ghost use Rattle.env_maps.specs.declared.id.Context.{Context};
 ghost use Rattle.project_places.specs.Files.{Loads, Refuses};
 ghost use Rattle.project_places.specs.Faults.{ReadFaultRose};

@@ -12,9 +12,10 @@ use toml_view::{
 };
 use uuid::Uuid;
 
-/// Tests that the name and the identifier in the table of a Package.toml are these (Pkg, registries).
+/// Tests that the table of a Package.toml has this name and this identifier (Pkg, registries).
 ///
-/// Refused is BadShape of `name`, where it is absent or another one, and else of `uuid`. The other error is want of memory.
+/// Errors: Refused, exactly where one of them is absent or another one, as BadShape of `name` or else of `uuid`; want of
+/// memory.
 pub fn check_package(alloc: Global, name: &Name, uuid: &Uuid, table: &Table) -> Result<(), Halt>
     ensures { Reads result (caused (spec.package_of name.now uuid.now (table_view table.now))) }
 {

@@ -13,10 +13,11 @@ use pkg_world::Listed;
 use std::alloc::Global;
 use toml_view::{Halt, Reader, Table, UuidReader, halted};
 
-/// The versions of the table of Versions.toml, in rising order (Pkg, registries).
+/// The versions of the table of a Versions.toml, in rising order (Pkg, registries).
 ///
-/// Refused is the first refusal in key order: BadVersion of a key that is no version, BadShape of the second key that
-/// reads as one version, and BadShape of a value that has no tree or an odd `yanked`. The other error is want of memory.
+/// Errors: Refused, exactly where the table is refused, with the first refusal in key order: BadVersion of a key that is no
+/// version, BadShape of the second key that reads as one version, and BadShape where a version has no tree or its `yanked`
+/// is neither true nor false; want of memory.
 pub fn version_rows(alloc: Global, table: &Table) -> Result<VersionRows, Halt>
     ensures { spec.GivesList (spec.version_rows (table_view table.now)) result }
 {
@@ -26,12 +27,12 @@ pub fn version_rows(alloc: Global, table: &Table) -> Result<VersionRows, Halt>
     }
 }
 
-/// The entries of a table of dependencies, Deps.toml or WeakDeps.toml, by the bytes of the headings and then of the names
-/// (Pkg, registries).
+/// The entries of the table of a Deps.toml or WeakDeps.toml, by the bytes of the headings and then of the names (Pkg,
+/// registries).
 ///
-/// Refused is the first refusal in key order: BadSpec of a heading that is no range, and BadShape of a value that is no
-/// identifier. After these it is Clash, where two sections that hold a listed version give one name different values (an
-/// own rule). The other error is want of memory.
+/// Errors: Refused, exactly where the table is refused, with the first refusal in key order: BadSpec of a heading that is no
+/// range, and BadShape of a value that is no identifier; then as Clash, where two sections that hold a listed version give
+/// one name different values (an own rule); want of memory.
 pub fn id_entries(alloc: Global, versions: &[VersionRow], table: &Table) -> Result<IdEntries, Halt>
     ensures { spec.GivesList (spec.id_entries versions.now (table_view table.now)) result }
 {
@@ -41,8 +42,11 @@ pub fn id_entries(alloc: Global, versions: &[VersionRow], table: &Table) -> Resu
     }
 }
 
-/// The entries of a compat table, Compat.toml or WeakCompat.toml, in the same order and with the same refusals; a value
-/// is a range or a list of ranges, and BadSpec of the value where a text is none.
+/// The entries of the table of a Compat.toml or WeakCompat.toml, by the bytes of the headings and then of the names (Pkg,
+/// registries).
+///
+/// Errors: as for `id_entries`, where a value is a range or a list of ranges: BadShape where it has another kind, and BadSpec
+/// where a text in it is no range.
 pub fn range_entries(
     alloc: Global,
     versions: &[VersionRow],

@@ -1,5 +1,5 @@
 -- The refusal of a file, by the cause that a fault names.
-use Rattle.std.proofs.Common.{◌≡◌, ap, Option, Some, None, Result, Ok, Err, sym, ◌∙◌}
+use Rattle.std.proofs.Common.{◌≡◌, ap, Result, Err, sym, ◌∙◌}
 use Rattle.pkg_world.specs.Path.{Path}
 use Rattle.pkg_world.specs.declared.cause.Cause.{Cause}
 use Rattle.manifest_file.specs.Steps.{Refuses as FaultRefuses}

@@ -1,10 +1,10 @@
 //! The two files of a project, read from a store.
 ghost use Rattle.std.specs.Prelude.{◌≡◌, ◌≤◌, IfSome, IfOk, IfErr};
-ghost use Rattle.pkg_world.specs.Tree.{holds, file_bytes};
+ghost use Rattle.pkg_world.specs.Tree.{holds};
 ghost use Rattle.project_file.specs.Projects as projects;
 ghost use Rattle.manifest_file.specs.Saying as manifests;
 ghost use Rattle.project_places.specs.Files.{at_file, project_in, manifest_in, some_of, LoadsProject, LoadsManifest, RefusesFile, RefusesBy, manifest_cause};
-ghost use Rattle.project_places.specs.Faults.{OnlyReadFault, NoReadFault, ReadFaultRose};
+ghost use Rattle.project_places.specs.Faults.{NoReadFault, ReadFaultRose};
 
 use crate::fault::EnvFault;
 use manifest_file::{Manifest, ManifestFault, Stanzas};

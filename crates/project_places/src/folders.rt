@@ -1,5 +1,5 @@
 //! Folders that have a project file.
-ghost use Rattle.std.specs.Prelude.{◌≡◌, ◌==◌, ◌≤◌, ℕ, List, Some, IfSome, IfOk, IfErr, OnOk, length, string_bytes, ◌++◌};
+ghost use Rattle.std.specs.Prelude.{◌≡◌, ◌==◌, ◌≤◌, Some, IfSome, IfOk, IfErr, length};
 ghost use Rattle.pkg_world.specs.Path.{joined};
 ghost use Rattle.project_places.specs.Active as spec;
 ghost use Rattle.project_places.specs.Faults.{OnlyReadFault};

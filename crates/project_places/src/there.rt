@@ -12,11 +12,7 @@ use std::alloc::{AllocError, Global};
 /// Whether a path is a file.
 ///
 /// Errors: ReadFault, where the store can't tell what is there; want of memory.
-pub fn is_there<S: Store>(
-    alloc: Global,
-    store: &mut S,
-    path: &NormPath,
-) -> Result<bool, EnvFault>
+pub fn is_there<S: Store>(alloc: Global, store: &mut S, path: &NormPath) -> Result<bool, EnvFault>
     ensures found { IfSome (S.files store.old) (λ all. IfOk result (λ found. found ≡ is_file_meant (holds path.now all))) }
     ensures refused { IfErr result (OnlyReadFault (S.read_faults store.old) (S.read_faults store.new)) }
     ensures files { S.files store.new ≡ S.files store.old }
@@ -55,11 +51,7 @@ pub(crate) fn first_there<S: Store>(
 }
 
 /// The path that a text means inside a folder; None exactly where it rises above the root. The one error is want of memory.
-pub fn path_in(
-    alloc: Global,
-    folder: &NormPath,
-    text: &str,
-) -> Result<Option<NormPath>, AllocError>
+pub fn path_in(alloc: Global, folder: &NormPath, text: &str) -> Result<Option<NormPath>, AllocError>
     ensures { IfOk result (λ path. path ≡ joined folder.now text.now) }
 {
     match NormPath::join(alloc, folder, text) {

@@ -1,4 +1,3 @@
-use Rattle.std.proofs.Common.{IfOk, IfSome}
 use Rattle.import_lookup.proofs.Whole.{whole_told}
 use Rattle.import_lookup.proofs.importing.import.Goals as goal
 
