@@ -4,6 +4,7 @@ ghost use Rattle.toml.specs.View.{table_view};
 ghost use Rattle.toml_view.specs.Answers.{HasPath};
 ghost use Rattle.project_file.specs.Answers.{Gives};
 ghost use Rattle.project_file.specs.Chain.{front_of, middle_of, back_of};
+ghost use Rattle.project_file.specs.Projects.{ids_in, extensions_in};
 
 use crate::source::{Source, SourceReader};
 use crate::spec_text::{SpecReader, SpecText};
@@ -46,9 +47,9 @@ pub(crate) fn read_front(alloc: Global, table: &Table) -> Result<Front, Stop>
     ensures path { IfErr result HasPath }
 {
     let compat = table_at(alloc, SpecReader, table, "compat")?;
-    let deps = table_at(alloc, UuidReader, table, "deps")?;
-    let extensions = table_at(alloc, NamesReader, table, "extensions")?;
-    let extras = table_at(alloc, UuidReader, table, "extras")?;
+    let deps = ids_at(alloc, table, "deps")?;
+    let extensions = extensions_at(alloc, table)?;
+    let extras = ids_at(alloc, table, "extras")?;
     Ok(Front {
         compat,
         deps,
@@ -79,10 +80,26 @@ pub(crate) fn read_back(alloc: Global, table: &Table) -> Result<Back, Stop>
 {
     let uuid = opt(alloc, &UuidReader, table, "uuid")?;
     let version = opt(alloc, &VersionReader, table, "version")?;
-    let weakdeps = table_at(alloc, UuidReader, table, "weakdeps")?;
+    let weakdeps = ids_at(alloc, table, "weakdeps")?;
     Ok(Back {
         uuid,
         version,
         weakdeps,
     })
+}
+
+/// The names with their identifiers at a key.
+fn ids_at(alloc: Global, table: &Table, key: &str) -> Result<NamedValues<Uuid>, Stop>
+    ensures told { Gives result (ids_in key.now (table_view table.now)) }
+    ensures path { IfErr result HasPath }
+{
+    table_at(alloc, UuidReader, table, key)
+}
+
+/// The extensions with their triggers.
+fn extensions_at(alloc: Global, table: &Table) -> Result<NamedValues<Values<Name>>, Stop>
+    ensures told { Gives result (extensions_in (table_view table.now)) }
+    ensures path { IfErr result HasPath }
+{
+    table_at(alloc, NamesReader, table, "extensions")
 }

@@ -1,9 +1,10 @@
 //! Where a package comes from.
-ghost use Rattle.std.specs.Prelude.{◌≡◌, Ok, IfOk, IfErr};
+ghost use Rattle.std.specs.Prelude.{◌≡◌, ◌||◌, codes, Ok, IfOk, IfErr};
 ghost use Rattle.toml.specs.View.{table_view};
 ghost use Rattle.project_file.specs.Places.{source_of, source_in, source_from};
 ghost use Rattle.project_file.specs.Chain.{source_chain};
 ghost use Rattle.toml_view.specs.Answers.{Refuses};
+ghost use Rattle.toml_view.specs.Reading.{has_key};
 
 use pkg_world::Name;
 use std::alloc::Global;
@@ -45,11 +46,18 @@ fn read_source(alloc: Global, table: &Table) -> Result<Source, Stop>
     ensures ok { IfOk result (λ source. source_in (table_view table.now) ≡ Ok source) }
     ensures err { IfErr result (λ stop. Refuses stop (source_in (table_view table.now))) }
 {
-    if has_key(table, "path") || has_key(table, "url") {
+    if is_placed(table) {
         placed_source(alloc, table)
     } else {
         Err(other_shape())
     }
+}
+
+/// Whether a table has a path or an address.
+fn is_placed(table: &Table) -> bool
+    ensures { result ≡ (has_key (codes "path") (table_view table.now) || has_key (codes "url") (table_view table.now)) }
+{
+    has_key(table, "path") || has_key(table, "url")
 }
 
 /// The source by its keys, in the order of their bytes.
