@@ -5,10 +5,10 @@ ghost use Rattle.home_commands.specs.Home.{both_in, both_at as both_meant, both_
 ghost use Rattle.command_answers.specs.Answers.{Refuses, ReadFaultRose, IsLate, IsUnprinted};
 
 use command_answers::Status;
-use project_places::{EnvFault, active_project, manifest_at, manifest_path, project_at};
 use manifest_file::Manifest;
 use pkg_world::{NormPath, Place, Store};
 use project_file::Project;
+use project_places::{EnvFault, active_project, manifest_at, manifest_path, project_at};
 use std::alloc::Global;
 
 /// What the two files of the active project say, and where the project file is.
