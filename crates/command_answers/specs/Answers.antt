@@ -1,7 +1,5 @@
 -- What each status, and each answer on the way to it, says.
-use Rattle.std.specs.Prelude.{◌≡◌, ℕ, Bool, true, List, [], ◌∷◌, ◌++◌, take, codes, Option, Some, None, option_map, Result, Ok, Err, MatchResult, String, string_bytes}
-use Rattle.std.specs.List.{list_any}
-use Rattle.std.specs.Str.{bytes_eq}
+use Rattle.std.specs.Prelude.{◌≡◌, ℕ, List, ◌++◌, take, Option, Some, None, option_map, Result, Ok, Err, MatchResult, String, string_bytes}
 use Rattle.std.specs.declared.alloc.Global.{Global}
 use Rattle.pkg_world.specs.Outside.{Rose}
 use Rattle.command_answers.specs.declared.status.Status.{Status}

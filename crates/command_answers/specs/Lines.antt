@@ -2,7 +2,7 @@
 use Rattle.std.specs.Prelude.{ℕ, List, [], ◌∷◌, ◌++◌, codes, Option, Some, None}
 use Rattle.std.specs.Fmt.{decimal}
 use Rattle.uuid.specs.Text.{hyphenated_text, lower}
-use Rattle.pkg_world.specs.Path.{Path, path_text}
+use Rattle.pkg_world.specs.Path.{path_text}
 use Rattle.pkg_world.specs.TreeIds.{tree_text}
 use Rattle.pkg_world.specs.declared.cause.Cause.{Cause}
 use Rattle.pkg_world.specs.declared.cause.Cause.TheVariants.{BadToml, Deep, BadShape, BadVersion, BadSpec, Clash, SameUuid, Dangling, Unclear}

@@ -1,8 +1,7 @@
 -- What stops a reading of a registry's files stops those that begin with it.
-use Rattle.std.proofs.Common.{List, Ok, Err}
-use Rattle.pkg_world.specs.Each.{onto, joined_ok}
+use Rattle.std.proofs.Common.{Ok, Err}
 use Rattle.pkg_world.proofs.Each.{Stops}
-use Rattle.registry_tables.specs.Answers.{Read, Refuses}
+use Rattle.registry_tables.specs.Answers.{Refuses}
 use Rattle.registry_tables.specs.declared.fault.RegFault.{RegFault}
 use Rattle.registry_tables.specs.declared.fault.RegFault.TheVariants.{ReadFault, MissingFile, BadFile, Memory}
 

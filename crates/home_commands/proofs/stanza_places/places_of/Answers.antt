@@ -1,6 +1,5 @@
-use Rattle.std.proofs.Common.{◌≡◌, ◌∷◌, ◌-◌, Some, if◌then◌else◌, map, drop, ap, sym, ◌∙◌, arith}
+use Rattle.std.proofs.Common.{◌≡◌, ◌∷◌, ◌-◌, map, drop, ap, sym, ◌∙◌, arith}
 use Rattle.std.proofs.lemmas.Grind.{common_steps}
-use Rattle.std.specs.Str.{bytes_eq}
 use Rattle.manifest_file.specs.Said.{said_stanza}
 use Rattle.home_commands.specs.StanzaPlaces.{place_in, stanza_at}
 use Rattle.home_commands.specs.StatusDue.{stanza_with}
