@@ -12,6 +12,7 @@ mod world_tests;
 use host_sink::HostSink;
 use host_store::HostStore;
 use pkg_top::run;
+use read_once::ReadOnce;
 use std::process::ExitCode;
 use surroundings::{Surroundings, read_surroundings, refuse};
 
@@ -22,12 +23,13 @@ fn main(rt: HostRuntime) -> ExitCode {
     }
 }
 
-/// Runs the command over the files and outputs of the machine, and gives its exit code.
+/// Runs the command over the files and outputs of the machine, and gives its exit code. Each file of TOML is asked for
+/// once.
 fn run_there(rt: HostRuntime, found: &Surroundings) -> u8 {
     let alloc = rt.alloc();
     let mut out = HostSink::new(rt.stdout());
     let mut err = HostSink::new(rt.stderr());
-    let mut store = HostStore::new(rt);
+    let mut store = ReadOnce::over(alloc, HostStore::new(rt));
     let ended = run(
         alloc,
         found.words.as_slice(),

@@ -1,0 +1,9 @@
+//! A store over another one that asks it once for each file of TOML, and remembers what it said.
+#![tactic(auto)]
+
+mod once;
+mod seen;
+#[cfg(test)]
+mod tests;
+
+pub use once::ReadOnce;
