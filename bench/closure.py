@@ -4,15 +4,10 @@
 Makes a program in a temporary folder that stands on copies of this repository's crates, builds it with `rt`,
 runs it, and prints one line for each measurement. Needs `rt` on the path and `/usr/bin/time`. Usage: bench/closure.py
 """
-import os
 import shutil
-import subprocess
-import sys
 import tempfile
-import time
 
-TOP = os.path.dirname(os.path.dirname(os.path.abspath(__file__)))
-CRATES = ["pkg_world", "version_graph", "graph_pruning"]
+from built import built, timed
 
 MAIN = r"""//! Makes an instance, and closes its domains after one choice at a time.
 #![tactic(auto)]
@@ -185,53 +180,18 @@ invariant-loop-p l = Holds l.instance l.domains l.trail
 """
 
 
-def write(path, text):
-    os.makedirs(os.path.dirname(path), exist_ok=True)
-    with open(path, "w", encoding="utf-8") as out:
-        out.write(text)
-
-
-def build(top):
-    """The program's path, once it is proved and built in this folder."""
-    lines = []
-    with open(os.path.join(TOP, "crates.txt"), encoding="utf-8") as listed:
-        for line in listed:
-            if line.split(":")[0] in CRATES:
-                lines.append(line)
-    for name in CRATES:
-        shutil.copytree(
-            os.path.join(TOP, "crates", name),
-            os.path.join(top, "crates", name),
-            ignore=shutil.ignore_patterns("out", "must-fail"),
-        )
-    crate = os.path.join(top, "crates", "closure_bench")
-    write(os.path.join(top, "crates.txt"), "".join(lines) + "closure_bench: graph_pruning version_graph anyhow\n")
-    write(os.path.join(crate, "src", "main.rt"), MAIN)
-    write(os.path.join(crate, "src", "drive.rt"), DRIVE)
-    write(os.path.join(crate, "proofs", "drive", "world", "Invariants.antt"), WORLD)
-    write(os.path.join(crate, "proofs", "drive", "rounds", "Invariants.antt"), ROUNDS)
-    write(os.path.join(crate, "proofs", "Lib.antt"), "")
-    write(os.path.join(crate, "specs", "Lib.antt"), "")
-    built = subprocess.run(["rt", "run"], cwd=crate, capture_output=True, text=True)
-    program = os.path.join(crate, "out", "closure_bench")
-    if not os.path.exists(program):
-        sys.exit(built.stdout + built.stderr)
-    return program
-
-
-def timed(program, mesh, packages, states, times):
-    """Seconds, peak memory in KiB, and what is printed."""
-    words = ["/usr/bin/time", "-f", "%M", program, str(mesh), str(packages), str(states), str(times)]
-    start = time.monotonic()
-    ended = subprocess.run(words, capture_output=True, text=True, check=True)
-    seconds = time.monotonic() - start
-    return seconds, int(ended.stderr.split()[-1]), ended.stdout.strip()
+FILES = {
+    "src/main.rt": MAIN,
+    "src/drive.rt": DRIVE,
+    "proofs/drive/world/Invariants.antt": WORLD,
+    "proofs/drive/rounds/Invariants.antt": ROUNDS,
+}
 
 
 def main():
     top = tempfile.mkdtemp(prefix="closure-bench-")
     try:
-        program = build(top)
+        program = built(top, "closure_bench", ["graph_pruning", "version_graph", "anyhow"], FILES)
         for packages, times in [(300, 900), (3000, 90)]:
             without, _, _ = timed(program, 0, packages, 9, 0)
             seconds, memory, taken = timed(program, 0, packages, 9, times)

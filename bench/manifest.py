@@ -7,13 +7,9 @@ the program's start is that of many rounds less that of none. Needs `rt` on the 
 """
 import os
 import shutil
-import subprocess
-import sys
 import tempfile
-import time
 
-TOP = os.path.dirname(os.path.dirname(os.path.abspath(__file__)))
-CRATES = ["pkg_world", "jl_versions", "toml_view", "manifest_file"]
+from built import built, timed, write
 
 MAIN = r"""//! Reads a manifest, makes its table, and prints the file's table, again and again.
 #![tactic(auto)]
@@ -87,37 +83,6 @@ fn main(rt: HostRuntime) -> Result<()> {
 """
 
 
-def write(path, text):
-    os.makedirs(os.path.dirname(path), exist_ok=True)
-    with open(path, "w", encoding="utf-8") as out:
-        out.write(text)
-
-
-def build(top):
-    """The program's path, once it is proved and built in this folder."""
-    lines = []
-    with open(os.path.join(TOP, "crates.txt"), encoding="utf-8") as listed:
-        for line in listed:
-            if line.split(":")[0] in CRATES:
-                lines.append(line)
-    for name in CRATES:
-        shutil.copytree(
-            os.path.join(TOP, "crates", name),
-            os.path.join(top, "crates", name),
-            ignore=shutil.ignore_patterns("out", "must-fail"),
-        )
-    crate = os.path.join(top, "crates", "manifest_bench")
-    write(os.path.join(top, "crates.txt"), "".join(lines) + "manifest_bench: manifest_file toml_view anyhow\n")
-    write(os.path.join(crate, "src", "main.rt"), MAIN)
-    write(os.path.join(crate, "proofs", "Lib.antt"), "")
-    write(os.path.join(crate, "specs", "Lib.antt"), "")
-    built = subprocess.run(["rt", "run"], cwd=crate, capture_output=True, text=True)
-    program = os.path.join(crate, "out", "manifest_bench")
-    if not os.path.exists(program):
-        sys.exit(built.stdout + built.stderr)
-    return program
-
-
 def manifest(count):
     """A manifest in which each package needs the three before it."""
     lines = ['julia_version = "1.11.2"', 'manifest_format = "2.0"', ""]
@@ -133,19 +98,10 @@ def manifest(count):
     return "\n".join(lines)
 
 
-def timed(program, path, what, times):
-    """Seconds, peak memory in KiB, and what is printed."""
-    words = ["/usr/bin/time", "-f", "%M", program, path, what, str(times)]
-    start = time.monotonic()
-    ended = subprocess.run(words, capture_output=True, text=True, check=True)
-    seconds = time.monotonic() - start
-    return seconds, int(ended.stderr.split()[-1]), ended.stdout.strip()
-
-
 def main():
     top = tempfile.mkdtemp(prefix="manifest-bench-")
     try:
-        program = build(top)
+        program = built(top, "manifest_bench", ["manifest_file", "toml_view", "anyhow"], {"src/main.rt": MAIN})
         for count in (5000, 10000):
             path = os.path.join(top, f"Manifest{count}.toml")
             write(path, manifest(count))
