@@ -1,0 +1,3 @@
+pub mod Finishing
+pub mod Laws
+pub mod Reached
