@@ -4,4 +4,5 @@ pub mod Domain
 pub mod Noted
 pub mod Answers
 pub mod Needed
+pub mod Part
 pub mod Stored

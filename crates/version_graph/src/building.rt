@@ -5,7 +5,7 @@ ghost use Rattle.version_graph.specs.Answers.{CountsPass, SumsPass, IsMemory};
 
 use crate::counting::{listed_pairs, neighbour_rows, open_rows, state_sum};
 use crate::graph::Instance;
-use crate::limits::GraphFault;
+use crate::fault::GraphFault;
 use pkg_world::LimitKind;
 use std::alloc::{AllocError, Global};
 use std::collections::BTreeSet;

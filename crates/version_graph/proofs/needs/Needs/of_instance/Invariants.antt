@@ -1,7 +1,7 @@
 use Rattle.std.proofs.Common.{◌≡◌, ◌<◌, ℕ, length, get_or, [], map}
 use Rattle.version_graph.specs.Graph.{states, does_need, IsListOf}
 use Rattle.version_graph.specs.Stored.{rows_of}
-use Rattle.version_graph.proofs.needing.Needs.of_instance.Given as goal
+use Rattle.version_graph.proofs.needs.Needs.of_instance.Given as goal
 
 abbrev pub invariant-loop-p : goal.invariant-loop-p
 invariant-loop-p l = record {

@@ -17,7 +17,7 @@ pub enum GraphFault {
 
 impl From<AllocError> for GraphFault {
     ghost use Rattle.std.specs.Prelude.{◌≡◌};
-    ghost use Rattle.version_graph.specs.declared.limits.GraphFault.TheVariants.{Memory};
+    ghost use Rattle.version_graph.specs.declared.fault.GraphFault.TheVariants.{Memory};
 
     ghost from_gives = { λ _ fault. fault ≡ Memory };
 

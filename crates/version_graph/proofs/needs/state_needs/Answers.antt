@@ -3,7 +3,7 @@ use Rattle.std.proofs.Math.Seq.{take-length}
 use Rattle.std.specs.List.{filter}
 use Rattle.version_graph.specs.Graph.{does_need, last, IsListOf}
 use Rattle.version_graph.proofs.ListLemmas.{filter-listed, need-forbidden}
-use Rattle.version_graph.proofs.needing.state_needs.Goals as goal
+use Rattle.version_graph.proofs.needs.state_needs.Goals as goal
 
 pub returns : goal.returns
 returns c =

@@ -3,7 +3,7 @@ use Rattle.std.proofs.lemmas.Bool.{cases_lt}
 use Rattle.version_graph.specs.Graph.{does_need, IsListOf}
 use Rattle.version_graph.specs.Stored.{rows_of}
 use Rattle.version_graph.proofs.ListLemmas.{pushed-below, pushed-last}
-use Rattle.version_graph.proofs.needing.package_needs.Goals as goal
+use Rattle.version_graph.proofs.needs.package_needs.Goals as goal
 
 pub loop-i-preserved : goal.loop-i-preserved
 loop-i-preserved c =

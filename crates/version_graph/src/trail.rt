@@ -64,6 +64,7 @@ impl Trail {
     /// Says that the domains at the present length are stable and filled. It takes no memory.
     pub fn settle(&mut self)
         ensures notes { self.new.notes ≡ self.old.notes }
+        ensures settled { is_settled_at self.new (length self.old.notes) ≡ true }
         ensures keeps { (g : Graph) (d : Rows) → Holds g d self.old → IsSettled g (has d) → Holds g d self.new }
     {
         let mark = self.notes.len();

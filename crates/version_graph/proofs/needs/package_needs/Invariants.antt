@@ -1,7 +1,7 @@
 use Rattle.std.proofs.Common.{◌≡◌, ◌<◌, ℕ, length, get_or, []}
 use Rattle.version_graph.specs.Graph.{does_need, IsListOf}
 use Rattle.version_graph.specs.Stored.{rows_of}
-use Rattle.version_graph.proofs.needing.package_needs.Given as goal
+use Rattle.version_graph.proofs.needs.package_needs.Given as goal
 
 abbrev pub invariant-loop-i : goal.invariant-loop-i
 invariant-loop-i l = record {

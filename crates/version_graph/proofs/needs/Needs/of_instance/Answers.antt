@@ -4,7 +4,7 @@ use Rattle.std.proofs.lemmas.List.{length-map}
 use Rattle.version_graph.specs.Graph.{packages, states, does_need, IsListOf}
 use Rattle.version_graph.specs.Stored.{rows_of}
 use Rattle.version_graph.proofs.ListLemmas.{pushed-below, pushed-last}
-use Rattle.version_graph.proofs.needing.Needs.of_instance.Goals as goal
+use Rattle.version_graph.proofs.needs.Needs.of_instance.Goals as goal
 
 pub loop-p-preserved : goal.loop-p-preserved
 loop-p-preserved c =
