@@ -5,4 +5,5 @@ pub mod Noted
 pub mod Answers
 pub mod Needed
 pub mod Part
+pub mod Copied
 pub mod Stored

@@ -9,6 +9,7 @@ mod fault;
 mod graph;
 mod laws;
 mod needs;
+mod restricting;
 mod state_map;
 #[cfg(test)]
 mod tests;

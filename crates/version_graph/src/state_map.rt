@@ -65,4 +65,19 @@ impl StateMap {
     {
         self.pieces[p as usize].states.items()[i as usize]
     }
+
+    /// How many packages the map has.
+    pub(crate) fn count(&self) -> usize
+        ensures { result ≡ length self.now }
+    {
+        self.pieces.len()
+    }
+
+    /// How many states the package in the place p has.
+    pub(crate) fn width(&self, p: usize) -> usize
+        requires { p < length self.now }
+        ensures { result ≡ length (states_of self.now p) }
+    {
+        self.pieces[p].states.items().len()
+    }
 }

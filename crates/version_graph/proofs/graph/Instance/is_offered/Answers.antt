@@ -1,6 +1,5 @@
-use Rattle.std.proofs.Common.{◌≡◌, ◌∙◌, ◌<◌, ◌&&◌, not, get_or, ap, sym, subst, ltb}
-use Rattle.std.proofs.lemmas.Bool.{lt-ltb}
-use Rattle.version_graph.specs.Graph.{Graph, packages, states, is_barred, is_offered}
+use Rattle.std.proofs.Common.{◌∙◌, ◌<◌, not, ap, sym, subst}
+use Rattle.version_graph.specs.Graph.{Graph, packages, states, is_offered}
 use Rattle.version_graph.specs.Stored.{graph_of}
 use Rattle.version_graph.proofs.GraphLemmas.{barred-read, offered-from_barred}
 use Rattle.version_graph.proofs.graph.Instance.is_offered.Goals as goal

@@ -2,8 +2,8 @@ use Rattle.std.proofs.Common.{◌≡◌, ◌∙◌, ◌<◌, ℕ, ap, sym, subst
 use Rattle.std.specs.List.{sum}
 use Rattle.version_graph.specs.Stored.{rows_of}
 use Rattle.version_graph.proofs.BuildLemmas.{open-open, open-kept}
-use Rattle.version_graph.proofs.building.InstanceBuilder.make.Goals as goal
-use Rattle.version_graph.proofs.building.InstanceBuilder.make.Goals.{After-new}
+use Rattle.version_graph.proofs.building.InstanceBuilder.blank.Goals as goal
+use Rattle.version_graph.proofs.building.InstanceBuilder.blank.Goals.{After-new}
 
 same : (c : After-new) → c.in_ok-sizes.sizes.items ≡ c.args.states.now
 same c = c.in_ok-sizes.ensures.items
@@ -17,11 +17,11 @@ each c = c.in_ok-barred.ensures.each ∙ ap length (sym (same c))
 pub invariant_of-result : goal.invariant_of-result
 invariant_of-result c = (
   open-kept c.in_ok-sizes.sizes.items c.in_ok-barred.barred.items c.new.result.keys c.new.ensures.empty (each c) (rows c)
-      (omega (arith, c.if-states-gt-MOST_PACKAGES.false, ap length (same c)))
-      (omega (arith, c.if-total-gt-MOST_STATES.false, c.state_sum-total.ensures, ap sum (same c)))
-      (subst (λ (xs : List ℕ). (p : ℕ) → p < length xs → 0 < get_or xs p 0) (sym (same c)) c.requires),
-  c.state_sum-total.ensures ∙ ap sum (sym (same c)),
+      (omega (arith, c.requires.few, ap length (same c)))
+      (omega (arith, c.requires.small, ap sum (same c)))
+      (subst (λ (xs : List ℕ). (p : ℕ) → p < length xs → 0 < get_or xs p 0) (sym (same c)) c.requires.filled),
+  c.state_sum.ensures ∙ ap sum (sym (same c)),
 )
 
-pub returns-clause-open : goal.returns-clause-open
-returns-clause-open c = open-open c.in_ok-sizes.sizes.items c.in_ok-barred.barred.items c.new.result.keys c.new.ensures.empty (each c) (rows c)
+pub returns-clause-bare : goal.returns-clause-bare
+returns-clause-bare c = open-open c.in_ok-sizes.sizes.items c.in_ok-barred.barred.items c.new.result.keys c.new.ensures.empty (each c) (rows c)

@@ -1,7 +1,7 @@
 use Rattle.std.proofs.Common.{◌≡◌, ◌∙◌, ◌<◌, ◌||◌, ap, arith, Bool, true, false, refl}
 use Rattle.version_graph.specs.Graph.{is_key, is_forbidden}
 use Rattle.version_graph.proofs.BuildLemmas.{forbidden-added, on-ok}
-use Rattle.version_graph.proofs.building.InstanceBuilder.forbid_pair.Goals as goal
+use Rattle.version_graph.proofs.building.InstanceBuilder.add_pair.Goals as goal
 
 pub returns-then-p-q-clause-ok : goal.returns-then-p-q-clause-ok
 returns-then-p-q-clause-ok c = on-ok c.list_pair.result _ _
