@@ -133,3 +133,35 @@ listed-none g marks order each none empty =
       known = λ k b. absurd (omega (arith, b, count));
       listed = λ p is. let no = none p in absurd (cc);
     }
+
+-- ---- one mark more or less
+
+left-false : (b c : Bool) → (b || c) ≡ false → b ≡ false
+left-false true c e = e
+left-false false c e = refl
+
+pub unmarked-before : (old new : List Bool) (p : ℕ) → p < length old → new ≡ set old p true → (q : ℕ) → is_marked new q ≡ false → is_marked old q ≡ false
+unmarked-before old new p h e q f = left-false (is_marked old q) (eqb q p) (sym (ap (λ m. is_marked m q) e ∙ marked-set old p h q) ∙ f)
+
+pub marked-here : (old new : List Bool) (p : ℕ) → p < length old → new ≡ set old p true → is_marked new p ≡ true
+marked-here old new p h e = ap (λ m. is_marked m p) e ∙ marked-set old p h p ∙ ap (λ v. is_marked old p || v) (eq-eqb p p refl) ∙ or_true (is_marked old p)
+
+pub marked-more : (old new : List Bool) (p : ℕ) → p < length old → new ≡ set old p true → (q : ℕ) → is_marked old q ≡ true → is_marked new q ≡ true
+marked-more old new p h e q is = ap (λ m. is_marked m q) e ∙ marked-set old p h q ∙ ap (λ v. v || eqb q p) is
+
+-- taking a mark away leaves the others
+pub unmarked-other : (old new : List Bool) (p : ℕ) → new ≡ set old p false → (q : ℕ) → q ≢ p → is_marked new q ≡ is_marked old q
+unfolding is_marked
+unmarked-other old new p e q ne = ap (λ m. get_or m q false) e ∙ get_or-set_other old p q false false ne
+
+pub unmarked-next : (marks : List Bool) (p : ℕ) → is_marked marks p ≡ false → ((q : ℕ) → q < p → is_marked marks q ≡ false) → (q : ℕ) → q < p + 1 → is_marked marks q ≡ false
+unmarked-next marks p out none q b = elim (eqb_tells q p) [
+  | inl s ↦ ap (is_marked marks) s.1 ∙ out
+  | inr s ↦ (let ne = s.1 in none q (omega (arith, b, ne)))
+]
+
+pub marked-next : (old new : List Bool) (p : ℕ) → p < length old → new ≡ set old p true → ((q : ℕ) → q < p → is_marked old q ≡ true) → (q : ℕ) → q < p + 1 → is_marked new q ≡ true
+marked-next old new p h e all q b = elim (eqb_tells q p) [
+  | inl s ↦ ap (is_marked new) s.1 ∙ marked-here old new p h e
+  | inr s ↦ (let ne = s.1 in marked-more old new p h e q (all q (omega (arith, b, ne))))
+]

@@ -2,4 +2,13 @@
 //! until nothing can be raised.
 #![tactic(auto)]
 
+mod changing;
+mod laws;
+mod raising;
 mod reaching;
+mod scratch;
+mod trimming;
+
+pub use laws::{finish_keeps_solution, one_finish};
+pub use raising::raise;
+pub use scratch::RaiseScratch;
