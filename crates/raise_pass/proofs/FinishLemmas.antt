@@ -1,14 +1,14 @@
 -- Finishing: steps one after another, one result, and solutions that stay solutions.
-use Rattle.std.proofs.Common.{◌≡◌, ◌≢◌, ℕ, ◌+◌, ◌-◌, ◌<◌, ◌≤◌, Bool, true, false, cond, List, [], ◌∷◌, ◌++◌, length, get_or, set, refl, sym, ◌∙◌, ap, subst, arith, inl, inr, MatchBool}
+use Rattle.std.proofs.Common.{◌≡◌, ◌≢◌, ℕ, ◌-◌, ◌<◌, Bool, true, false, cond, List, [], ◌∷◌, ◌++◌, length, get_or, set, refl, sym, ◌∙◌, ap, subst, arith, inl, inr, MatchBool}
 use Rattle.std.proofs.lemmas.Bool.{cases_eq, cases_Bool}
 use Rattle.std.proofs.lemmas.List.{get_or-set_same, get_or-set_other, length-set, ext_get_or}
-use Rattle.version_graph.specs.Graph.{Graph, packages, states, last, is_offered, is_forbidden, IsGraph, IsPlain, IsSolution}
-use Rattle.raise_pass.specs.Finishing.{IsReached, IsReachedSet, IsTrimmed, CanRaise, Trims, Raises, Step, trims, raises, Steps, end_of, IsFinished, Finishes}
+use Rattle.version_graph.specs.Graph.{Graph, packages, last, is_offered, is_forbidden, IsGraph, IsPlain, IsSolution}
+use Rattle.raise_pass.specs.Finishing.{IsTrimmed, CanRaise, Trims, Raises, Step, trims, raises, Steps, end_of, IsFinished, Finishes}
 use Rattle.raise_pass.specs.Laws.{OneFinish, FinishKeepsSolution}
 use Rattle.raise_pass.specs.Scratch.{Leads}
 use Rattle.raise_pass.specs.Changed.{below_last, IsNextRaise, WasTrimmed}
 use Rattle.raise_pass.proofs.StuckLemmas.{forbidden-flip}
-use Rattle.raise_pass.proofs.TrimLemmas.{IsCut, cut-solves, sum-lt}
+use Rattle.raise_pass.proofs.TrimLemmas.{cut-solves, sum-lt}
 
 -- ---- one step after others
 

@@ -1,11 +1,11 @@
 -- What is marked is reached, and at the end all that is reached is marked.
-use Rattle.std.proofs.Common.{◌≡◌, ℕ, ◌+◌, ◌<◌, ◌≤◌, Bool, true, false, ◌||◌, List, length, get_or, refl, sym, ◌∙◌, ap, subst, arith, inl, inr, eqb, ltb}
-use Rattle.std.proofs.lemmas.Bool.{eqb-true, cases_lt, cases_eq, ltb-true, and_parts, eq-eqb}
+use Rattle.std.proofs.Common.{◌≡◌, ℕ, ◌+◌, ◌<◌, ◌≤◌, Bool, true, false, ◌||◌, List, length, get_or, sym, ◌∙◌, ap, subst, arith, inl, inr, eqb, ltb}
+use Rattle.std.proofs.lemmas.Bool.{eqb-true, cases_eq, ltb-true, and_parts, eq-eqb}
 use Rattle.std.proofs.lemmas.List.{get_or_default}
 use Rattle.std.specs.List.{Contains}
 use Rattle.version_graph.specs.Graph.{Graph, packages, states, is_root, does_need, IsListOf}
 use Rattle.version_graph.specs.Needed.{AreNeeds, need_row}
-use Rattle.raise_pass.specs.Finishing.{Spreads, IsReached, IsReachedSet}
+use Rattle.raise_pass.specs.Finishing.{IsReached, IsReachedSet}
 use Rattle.raise_pass.specs.Reached.{is_marked, AreListed, AreReached, AreSpread, Grows}
 use Rattle.raise_pass.proofs.MarkLemmas.{known-back, or_true}
 

@@ -1,15 +1,14 @@
 -- Packages that can't be raised alone, when another package's state changes.
-use Rattle.std.proofs.Common.{◌≡◌, ◌≢◌, ℕ, ◌+◌, ◌-◌, ◌<◌, ◌≤◌, Bool, true, false, not, ◌&&◌, ◌||◌, List, length, get_or, set, refl, sym, ◌∙◌, ap, subst, arith, inl, inr, eqb}
+use Rattle.std.proofs.Common.{◌≡◌, ◌≢◌, ℕ, ◌<◌, ◌≤◌, Bool, true, false, List, length, get_or, set, sym, ◌∙◌, ap, subst, arith, inl, inr}
 use Rattle.std.proofs.lemmas.Bool.{cases_eq, cases_lt, cases_Bool}
 use Rattle.std.proofs.lemmas.List.{get_or-set_other}
 use Rattle.std.specs.List.{Contains}
-use Rattle.version_graph.specs.Graph.{Graph, packages, last, is_offered, is_forbidden, has_pair}
+use Rattle.version_graph.specs.Graph.{Graph, packages, is_forbidden}
 use Rattle.version_graph.proofs.GraphLemmas.{forbidden-below, forbidden-above}
 use Rattle.raise_pass.specs.Finishing.{CanRaise}
 use Rattle.raise_pass.specs.Reached.{is_marked}
 use Rattle.raise_pass.specs.Scratch.{AreStuck}
 use Rattle.raise_pass.specs.Changed.{IsNextRaise}
-use Rattle.raise_pass.proofs.MarkLemmas.{marked-set}
 use Rattle.raise_pass.proofs.ReachLemmas.{place-of}
 
 -- a pair is forbidden whichever state is named first

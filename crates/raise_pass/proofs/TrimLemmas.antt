@@ -1,8 +1,8 @@
 -- Setting packages absent that aren't reached.
 use Rattle.std.proofs.Common.{◌≡◌, ◌≢◌, ℕ, zero, suc, ◌+◌, ◌-◌, ◌<◌, ◌≤◌, Bool, true, false, not, cond, ◌&&◌, List, length, get_or, set, refl, sym, ◌∙◌, ap, subst, arith, inl, inr, eqb, ltb, MatchBool}
-use Rattle.std.proofs.lemmas.Bool.{cases_eq, cases_lt, cases_Bool, and_from, and_parts, lt-ltb, ltb-true, ne_eqb, eq-eqb, eqb-true}
+use Rattle.std.proofs.lemmas.Bool.{cases_eq, cases_lt, cases_Bool, and_from, and_parts, lt-ltb, ne_eqb, eq-eqb, eqb-true}
 use Rattle.std.proofs.lemmas.List.{get_or-set_same, get_or-set_other, ext_get_or, length-set}
-use Rattle.version_graph.specs.Graph.{Graph, packages, states, last, is_root, is_barred, does_need, is_offered, is_forbidden, sum_below, IsGraph, IsPlain, IsSolution}
+use Rattle.version_graph.specs.Graph.{Graph, packages, states, last, is_barred, does_need, is_offered, is_forbidden, sum_below, IsGraph, IsPlain, IsSolution}
 use Rattle.raise_pass.specs.Finishing.{Spreads, IsReached, IsReachedSet, IsTrimmed, Trims}
 use Rattle.raise_pass.specs.Changed.{below_last, AreStates, WasTrimmed}
 use Rattle.version_graph.proofs.TrailLemmas.{offered_known}

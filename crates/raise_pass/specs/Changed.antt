@@ -1,7 +1,7 @@
 -- States with some of them changed.
-use Rattle.std.specs.Prelude.{◌≡◌, ◌≢◌, ℕ, ◌<◌, ◌≤◌, ◌-◌, Bool, true, false, List, length, slice_index}
+use Rattle.std.specs.Prelude.{◌≡◌, ℕ, ◌<◌, ◌≤◌, ◌-◌, List, length, slice_index}
 use Rattle.version_graph.specs.Graph.{Graph, packages, states, last, sum_below}
-use Rattle.raise_pass.specs.Finishing.{CanRaise, IsTrimmed, Trims}
+use Rattle.raise_pass.specs.Finishing.{CanRaise, IsTrimmed}
 
 -- how far all packages together are below their last states
 abbrev pub below_last : Graph → List ℕ → ℕ

@@ -1,5 +1,5 @@
 -- Packages that are marked while those that are reached are looked for, and the list of them in the order of the search.
-use Rattle.std.specs.Prelude.{◌≡◌, ℕ, ◌<◌, ◌≤◌, Bool, true, false, List, [], length, slice_index, slice_index_or, Contains}
+use Rattle.std.specs.Prelude.{◌≡◌, ℕ, ◌<◌, ◌≤◌, Bool, true, false, List, length, slice_index, slice_index_or, Contains}
 use Rattle.version_graph.specs.Domain.{count_true}
 use Rattle.version_graph.specs.Graph.{Graph, packages, does_need}
 use Rattle.raise_pass.specs.Finishing.{IsReached}

@@ -1,6 +1,5 @@
-use Rattle.std.proofs.Common.{◌≡◌, ◌<◌, ℕ, false, true, arith, refl, sym, ◌∙◌, ap, length, get_or}
+use Rattle.std.proofs.Common.{◌<◌, true, arith, refl, ◌∙◌, ap, length, get_or}
 use Rattle.std.proofs.lemmas.List.{length-set}
-use Rattle.version_graph.specs.Graph.{packages}
 use Rattle.raise_pass.specs.Reached.{is_marked}
 use Rattle.raise_pass.proofs.MarkLemmas.{marked-set, marked-more, unmarked-before, marked-here}
 use Rattle.raise_pass.proofs.ReachLemmas.{met-more}

@@ -1,7 +1,5 @@
-use Rattle.std.proofs.Common.{◌≡◌, ◌<◌, ℕ, true, false, arith, ap, ◌∙◌, length, sym}
+use Rattle.std.proofs.Common.{◌<◌, true, arith, ap, ◌∙◌, length}
 use Rattle.std.proofs.lemmas.List.{length-set}
-use Rattle.version_graph.specs.Graph.{packages}
-use Rattle.raise_pass.specs.Reached.{is_marked}
 use Rattle.raise_pass.proofs.MarkLemmas.{marked-next}
 use Rattle.raise_pass.proofs.raising.loosen.Goals as goal
 

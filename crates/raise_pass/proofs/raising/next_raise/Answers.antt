@@ -1,12 +1,9 @@
-use Rattle.std.proofs.Common.{◌≡◌, ◌<◌, ◌+◌, ℕ, false, set, arith, ap, sym, subst, ◌∙◌, length, inl, inr, refl}
-use Rattle.std.proofs.lemmas.Bool.{cases_eq}
+use Rattle.std.proofs.Common.{◌≡◌, ◌<◌, false, set, arith, ap, sym, subst, ◌∙◌, length}
 use Rattle.std.proofs.lemmas.List.{length-set}
-use Rattle.version_graph.specs.Graph.{packages}
-use Rattle.raise_pass.specs.Finishing.{CanRaise}
 use Rattle.raise_pass.specs.Reached.{is_marked}
 use Rattle.raise_pass.specs.Scratch.{AreStuck}
 use Rattle.raise_pass.proofs.MarkLemmas.{unmarked-other, unmarked-more, unmarked-next}
-use Rattle.raise_pass.proofs.StuckLemmas.{stuck-more, none-loose, next-raise}
+use Rattle.raise_pass.proofs.StuckLemmas.{stuck-more}
 use Rattle.raise_pass.proofs.raising.next_raise.Goals as goal
 use Rattle.raise_pass.proofs.raising.next_raise.Goals.{then-is_set+in_default, else-is_set}
 

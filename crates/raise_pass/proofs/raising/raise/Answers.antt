@@ -1,4 +1,4 @@
-use Rattle.std.proofs.Common.{◌≡◌, ◌<◌, ℕ, set, arith, sym, subst}
+use Rattle.std.proofs.Common.{◌<◌, arith, sym, subst}
 use Rattle.raise_pass.specs.Finishing.{raises}
 use Rattle.raise_pass.specs.Changed.{AreStates, IsNextRaise, below_last}
 use Rattle.raise_pass.proofs.TrimLemmas.{solution-states}

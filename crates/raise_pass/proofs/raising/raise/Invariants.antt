@@ -1,4 +1,3 @@
-use Rattle.std.proofs.Common.{ℕ}
 use Rattle.version_graph.specs.Graph.{IsSolution}
 use Rattle.raise_pass.specs.Finishing.{IsTrimmed}
 use Rattle.raise_pass.specs.Scratch.{IsScratchFor, AreStuck, Leads}

@@ -1,6 +1,6 @@
-use Rattle.std.proofs.Common.{◌≡◌, arith, get_or, refl, length}
+use Rattle.std.proofs.Common.{arith, get_or, refl}
 use Rattle.version_graph.proofs.RowLemmas.{count-le}
-use Rattle.raise_pass.proofs.ReachLemmas.{root-reached, reached-more, met-more, reached-set, reached-none}
+use Rattle.raise_pass.proofs.ReachLemmas.{root-reached, reached-more, met-more, reached-set}
 use Rattle.raise_pass.proofs.reaching.find_reached.Goals as goal
 
 pub loop-root-preserved : goal.loop-root-preserved

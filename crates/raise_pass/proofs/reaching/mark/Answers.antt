@@ -1,4 +1,4 @@
-use Rattle.std.proofs.Common.{◌≡◌, refl, sym, ◌∙◌, ap, arith}
+use Rattle.std.proofs.Common.{sym, ◌∙◌, ap, arith}
 use Rattle.raise_pass.specs.Reached.{is_marked}
 use Rattle.raise_pass.proofs.MarkLemmas.{room-left, listed-more, grows-more, marked-set, grows-none, marked-same}
 use Rattle.raise_pass.proofs.reaching.mark.Goals as goal

@@ -1,5 +1,5 @@
-use Rattle.std.proofs.Common.{◌≡◌, ◌∙◌, ap, sym, subst, arith, get_or, refl}
-use Rattle.version_graph.specs.Graph.{packages, does_need, IsListOf}
+use Rattle.std.proofs.Common.{◌≡◌, ◌∙◌, ap, arith, get_or, refl}
+use Rattle.version_graph.specs.Graph.{does_need, IsListOf}
 use Rattle.version_graph.specs.Needed.{need_row}
 use Rattle.raise_pass.proofs.ReachLemmas.{need-known, needed-list, need-reached, reached-more, spread-grows, spread-more, grows-trans, met-more}
 use Rattle.raise_pass.proofs.reaching.spread.Goals as goal

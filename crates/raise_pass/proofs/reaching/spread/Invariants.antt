@@ -1,4 +1,4 @@
-use Rattle.std.proofs.Common.{◌≡◌, ◌<◌, ◌≤◌, ℕ, true, length, get_or}
+use Rattle.std.proofs.Common.{◌≡◌, ◌<◌, ◌≤◌, ℕ, true, get_or}
 use Rattle.std.specs.Vec.{vec_capacity}
 use Rattle.raise_pass.specs.Reached.{is_marked, AreListed, AreReached, AreSpread, Grows}
 use Rattle.raise_pass.proofs.reaching.spread.Given as goal

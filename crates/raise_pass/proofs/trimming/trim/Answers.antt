@@ -1,4 +1,4 @@
-use Rattle.std.proofs.Common.{◌≡◌, ◌<◌, ◌+◌, ℕ, true, false, not, ◌&&◌, cond, eqb, set, arith, ap, sym, subst, ◌∙◌, get_or, length}
+use Rattle.std.proofs.Common.{◌≡◌, ◌<◌, ◌+◌, true, false, not, ◌&&◌, cond, eqb, set, arith, sym, subst, ◌∙◌, get_or, length}
 use Rattle.version_graph.specs.Graph.{packages, states, last}
 use Rattle.raise_pass.specs.Finishing.{IsReachedSet}
 use Rattle.raise_pass.specs.Reached.{is_marked}

@@ -1,5 +1,3 @@
-use Rattle.std.proofs.Common.{◌≡◌, ◌<◌, ℕ, length}
-use Rattle.version_graph.specs.Graph.{packages}
 use Rattle.raise_pass.specs.Finishing.{IsReachedSet}
 use Rattle.raise_pass.specs.Reached.{is_marked}
 use Rattle.raise_pass.specs.Scratch.{IsScratchFor, AreStuck}
