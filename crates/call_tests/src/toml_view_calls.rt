@@ -1,10 +1,16 @@
-//! What no clause says: that the calls succeed, and examples of their answers.
-use super::*;
-use crate::nesting::is_within_limit;
+//! Tables that are viewed and printed, and the values at their keys.
+ghost use Rattle.std.specs.Prelude.{◌≤◌, IfOk};
+ghost use Rattle.toml.specs.View.{table_view};
+ghost use Rattle.toml_view.specs.Document.{nesting, nesting_limit};
+
 use pkg_world::Text;
 use std::alloc::{AllocError, Global};
 use std::test::Fail;
 use toml::value::{Date, Datetime};
+use toml_view::{
+    KeyFault, PrintFault, Table, Value, ViewFault, need_text, opt_text, print_table, text_or_list,
+    uuid_table, view,
+};
 
 const FILE: &str = "text = \"x\"\nnumber = 5\nlist = [\"a\", \"b\"]\nmixed = [\"a\", 5]\n\
     [ids]\nB = \"22222222-2222-2222-2222-222222222222\"\nA = \"11111111111111111111111111111111\"\n\
@@ -136,7 +142,9 @@ fn a_printed_table_reads_again_to_an_equal_table(rt: HostRuntime) -> Result<(), 
 }
 
 /// The table of one date at a key.
-fn dated(alloc: Global, year: u16, month: u8, day: u8) -> Result<Table, AllocError> {
+fn dated(alloc: Global, year: u16, month: u8, day: u8) -> Result<Table, AllocError>
+    ensures { IfOk result (λ table. nesting (table_view table) ≤ nesting_limit) }
+{
     let mut table = Table::new(alloc);
     let date = Datetime {
         date: Some(Date { year, month, day }),
@@ -147,10 +155,9 @@ fn dated(alloc: Global, year: u16, month: u8, day: u8) -> Result<Table, AllocErr
     Ok(table)
 }
 
-fn printed(alloc: Global, table: &Table) -> &'static str {
-    if !is_within_limit(table) {
-        return "deep";
-    }
+fn printed(alloc: Global, table: &Table) -> &'static str
+    requires { nesting (table_view table.now) ≤ nesting_limit }
+{
     match print_table(alloc, table) {
         Ok(_) => "printed",
         Err(PrintFault::BadDate) => "bad date",

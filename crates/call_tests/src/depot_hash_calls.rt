@@ -1,12 +1,14 @@
-//! What no clause says: that the calls succeed, and examples of their answers, from Git and from the standards.
+//! Checksums, slugs, Git's ids of files and folders, and installed trees, with answers from Git and from the standards.
 ghost use Rattle.std.specs.Prelude.{◌≡◌, ◌∷◌, [], true, IfOk};
 ghost use Rattle.std.specs.List.{list_all};
 ghost use Rattle.depot_hash.specs.Trees.{is_name};
 
-use super::*;
-use pkg_world::{
-    Listed, MemStore, Name, NormPath, NormPaths, PathFault, Store, StoreCall, TreeId, WriteAnswer,
+use crate::stores::{File, at, fill, filled, paths};
+use depot_hash::{
+    FolderFault, Mode, TreeEntry, TreeFault, blob_id, checksum_goes_on, crc32c, folder_id,
+    installed, one_text_one_path, slug, slug_text, slug4, tree_id,
 };
+use pkg_world::{Listed, MemStore, Name, NormPath, PathFault, Store, StoreCall, TreeId};
 use std::alloc::{AllocError, Global};
 use std::test::Fail;
 use uuid::Uuid;
@@ -14,16 +16,15 @@ use uuid::Uuid;
 /// The tree of the folder `/a` below, with `bin/a` as a file that can be run.
 const RUNS: &str = "a8af9fbad502d06b149244f056eb07af2238299b";
 
-/// A path and the text of the file there.
-type File = (&'static str, &'static str);
-
-const PACKAGE: [File; 6] = [
+const PACKAGE: [File; 8] = [
     ("/a/bin/a", "#!/bin/sh\n"),
     ("/a/src/A.jl", "module A end\n"),
     ("/a/src/deep/x.jl", "x = 1\n"),
     ("/a/Project.toml", "name = \"A\"\n"),
     ("/a/.git/config", "[core]\n"),
     ("/a/src/.git/HEAD", "ref: refs/heads/main\n"),
+    ("/h/.gitfile", "x"),
+    ("/h/sub/.hidden/k", "k"),
 ];
 
 /// A folder, the file that can be run, and the id.
@@ -37,31 +38,11 @@ const FOLDERS: [(&str, &str, &str); 7] = [
     ("/h", "/", "6556019c88dcd249b1ea548cca9aa2c8b9efb485"),
 ];
 
-fn at(alloc: Global, text: &str) -> Result<NormPath, PathFault> {
-    NormPath::join(alloc, &NormPath::root(alloc), text)
-}
-
 /// The path of a folder of the root.
 fn empty(alloc: Global) -> Result<NormPath, PathFault>
     ensures { IfOk result (λ path. path ≡ (101 ∷ []) ∷ []) }
 {
     NormPath::join(alloc, &NormPath::root(alloc), "/e")
-}
-
-fn put(alloc: Global, store: &mut MemStore, file: &File) -> Result<(), PathFault> {
-    let path = at(alloc, file.0)?;
-    match store.replace(alloc, &path, file.1.as_bytes()) {
-        WriteAnswer::Memory => Err(PathFault::Memory),
-        _ => Ok(()),
-    }
-}
-
-fn paths(alloc: Global, texts: &[&str]) -> Result<NormPaths, PathFault> {
-    let mut paths = Listed::make(alloc);
-    for text in texts {
-        paths.push(at(alloc, text)?)?;
-    }
-    Ok(paths)
 }
 
 fn shown(alloc: Global, answer: Result<TreeId, FolderFault>) -> Result<String, AllocError> {
@@ -190,11 +171,7 @@ fn folders_have_gits_ids(rt: HostRuntime) -> Result<(), Fail> {
     let alloc = rt.alloc();
     let mut store = MemStore::make(alloc)?;
     store.put_folder(alloc, &empty(alloc)?)?;
-    for file in PACKAGE {
-        put(alloc, &mut store, &file)?;
-    }
-    put(alloc, &mut store, &("/h/.gitfile", "x"))?;
-    put(alloc, &mut store, &("/h/sub/.hidden/k", "k"))?;
+    fill(alloc, &mut store, PACKAGE.as_slice())?;
     for (folder, exec, want) in FOLDERS {
         let execs = paths(alloc, &["/x", exec])?;
         let got = folder_id(alloc, &mut store, &at(alloc, folder)?, &execs);
@@ -233,8 +210,7 @@ fn a_path_has_64_folders_below(rt: HostRuntime) -> Result<(), Fail> {
 #[test]
 fn a_call_that_fails_is_told_by_its_path(rt: HostRuntime) -> Result<(), Fail> {
     let alloc = rt.alloc();
-    let mut store = MemStore::make(alloc)?;
-    put(alloc, &mut store, &("/a/x", "in a"))?;
+    let mut store = filled(alloc, [("/a/x", "in a")].as_slice())?;
     store.fail_at(alloc, StoreCall::Read, 1)?;
     store.fail_at(alloc, StoreCall::List, 2)?;
     store.fail_at(alloc, StoreCall::Kind, 1)?;
@@ -262,26 +238,29 @@ fn a_call_that_fails_is_told_by_its_path(rt: HostRuntime) -> Result<(), Fail> {
 }
 
 /// Files of the depots `/d` and `/e`, and where the tree is installed.
-const DEPOTS: [([&str; 3], &str); 6] = [
+const DEPOTS: [([File; 2], &str); 6] = [
     (
-        ["/e/packages/A/hNEXG/x", "/d/packages/A/hNEX/x", "/x"],
+        [("/e/packages/A/hNEXG/x", ""), ("/d/packages/A/hNEX/x", "")],
         "/e/packages/A/hNEXG",
     ),
     (
-        ["/e/packages/A/hNEXG/x", "/d/packages/A/hNEXG/x", "/x"],
+        [("/e/packages/A/hNEXG/x", ""), ("/d/packages/A/hNEXG/x", "")],
         "/d/packages/A/hNEXG",
     ),
     (
-        ["/e/packages/A/hNEX/x", "/d/packages/A/hNEX/x", "/x"],
+        [("/e/packages/A/hNEX/x", ""), ("/d/packages/A/hNEX/x", "")],
         "/d/packages/A/hNEX",
     ),
     (
-        ["/e/packages/A/hNEX/x", "/d/packages/A/hNEX", "/x"],
+        [("/e/packages/A/hNEX/x", ""), ("/d/packages/A/hNEX", "")],
         "/e/packages/A/hNEX",
     ),
-    (["/d/packages/A/hNEXG", "/e/packages/A/hNEX", "/x"], "none"),
     (
-        ["/d/packages/B/hNEXG/x", "/packages/A/hNEXG/x", "/x"],
+        [("/d/packages/A/hNEXG", ""), ("/e/packages/A/hNEX", "")],
+        "none",
+    ),
+    (
+        [("/d/packages/B/hNEXG/x", ""), ("/packages/A/hNEXG/x", "")],
         "none",
     ),
 ];
@@ -294,10 +273,7 @@ fn a_tree_is_found_in_the_depots(rt: HostRuntime) -> Result<(), Fail> {
     let tree = TreeId::read(RUNS).unwrap_or(TreeId::of([0; 20]));
     let uuid = Uuid::from_u128(0x6c8d_3b52_0f59_4f1e_9a3c_5f0e_7a3b_1c02);
     for (files, want) in DEPOTS {
-        let mut store = MemStore::make(alloc)?;
-        for file in files {
-            put(alloc, &mut store, &(file, ""))?;
-        }
+        let mut store = filled(alloc, files.as_slice())?;
         let got = installed(alloc, &mut store, &depots, &name, &uuid, &tree);
         assert_eq!(rt; place(alloc, got)?.as_str(), want);
     }

@@ -1,6 +1,5 @@
-use crate::fault::VersionFault;
-use crate::ident::Ident;
-use crate::version::Version;
+//! Versions that are read, printed and compared.
+use jl_versions::{Ident, Version, VersionFault};
 use std::test::Fail;
 
 /// Texts that are no versions, with the length of the longest front that begins one.
