@@ -79,7 +79,7 @@ chosen-later p x xs other c = elim (or_cases (eqb x.0 p) (is_chosen xs p) c) [
   | inr later ↦ later
 ]
 
-agree-at : (prefix : Prefix) (p i : ℕ) → is_chosen prefix p ≡ true → agrees prefix p i ≡ true → (j : ℕ) → agrees prefix p j ≡ true → i ≡ j
+pub agree-at : (prefix : Prefix) (p i : ℕ) → is_chosen prefix p ≡ true → agrees prefix p i ≡ true → (j : ℕ) → agrees prefix p j ≡ true → i ≡ j
 agree-at [] p i c a j b = absurd (cc)
 agree-at (x ∷ xs) p i c a j b =
     let left = and_parts (not (eqb p x.0) || eqb i x.1) (agrees xs p i) a in
