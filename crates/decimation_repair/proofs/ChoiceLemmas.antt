@@ -1,13 +1,10 @@
 -- The least undecided package with its states from the greatest down is a lawful choice.
-use Rattle.std.proofs.Common.{◌≡◌, ◌≢◌, ℕ, zero, suc, ◌+◌, ◌<◌, ◌≤◌, List, [], ◌∷◌, length, get_or, refl, sym, ◌∙◌, ap, subst, arith, inl, inr}
+use Rattle.std.proofs.Common.{◌≡◌, ◌≢◌, ℕ, zero, suc, ◌<◌, ◌≤◌, List, [], ◌∷◌, length, get_or, refl, sym, ◌∙◌, ap, arith, inl, inr}
 use Rattle.std.proofs.lemmas.Bool.{cases_lt, cases_eq}
-use Rattle.std.proofs.lemmas.List.{ext_get_or, get_or_default}
+use Rattle.std.proofs.lemmas.List.{get_or_default}
 use Rattle.std.specs.List.{Contains}
-use Rattle.version_graph.specs.Graph.{Graph, packages}
-use Rattle.version_graph.specs.Family.{InClosure, under}
-use Rattle.refutation_log.specs.Refutes.{Prefix}
 use Rattle.decimation_repair.specs.Walk.{IsChoice}
-use Rattle.decimation_repair.specs.Choice.{IsUndecided, FirstChoice}
+use Rattle.decimation_repair.specs.Choice.{FirstChoice}
 
 -- the place of a listed number
 place-of : (xs : List ℕ) (x : ℕ) → Contains xs x → (k : ℕ) × (k < length xs) × (get_or xs k 0 ≡ x)

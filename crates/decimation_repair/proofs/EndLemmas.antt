@@ -1,17 +1,17 @@
 -- A walk that ends without a solution is a tree that refutes.
-use Rattle.std.proofs.Common.{◌≡◌, ◌≢◌, ℕ, zero, suc, ◌+◌, ◌<◌, ◌≤◌, Bool, true, false, not, ◌&&◌, ◌||◌, List, [], ◌∷◌, ◌++◌, length, get_or, map, refl, sym, ◌∙◌, ap, subst, arith, inl, inr, eqb, Option, Some, None}
-use Rattle.std.proofs.lemmas.Bool.{and_parts, and_from, or_cases, eqb-true, eq-eqb, cases_Bool, cases_eq}
+use Rattle.std.proofs.Common.{◌≡◌, ℕ, zero, suc, ◌<◌, Bool, true, false, not, ◌||◌, List, [], ◌∷◌, ◌++◌, length, get_or, refl, sym, ◌∙◌, ap, subst, arith, inl, inr, eqb, Some, None}
+use Rattle.std.proofs.lemmas.Bool.{and_parts, and_from, or_cases, eqb-true, eq-eqb, cases_Bool}
 use Rattle.std.proofs.lemmas.List.{get_or_default}
-use Rattle.std.specs.List.{Contains, list_any, list_all}
-use Rattle.version_graph.specs.Graph.{Graph, packages, states, is_offered}
-use Rattle.version_graph.specs.Family.{InClosure, HasEmpty, IsWithin, agrees, under}
+use Rattle.std.specs.List.{Contains}
+use Rattle.version_graph.specs.Graph.{Graph, states, is_offered}
+use Rattle.version_graph.specs.Family.{InClosure, HasEmpty, agrees, under}
 use Rattle.version_graph.proofs.FamilyLemmas.{closure-largest, below_within}
 use Rattle.version_graph.proofs.TrailLemmas.{offered_known}
 use Rattle.refutation_log.specs.Tree.{Tree, Children, leaf, branch, done, child, has_child, count_of, preorder, preorders}
-use Rattle.refutation_log.specs.Refutes.{Prefix, Refutes, EachRefutes, IsRefutation, IsKept, IsCovered, is_chosen}
+use Rattle.refutation_log.specs.Refutes.{Prefix, Refutes, EachRefutes, IsRefutation, is_chosen}
 use Rattle.refutation_log.specs.declared.node.Node.{Node}
-use Rattle.refutation_log.specs.declared.node.NodeKind.TheVariants.{Leaf, Branch}
-use Rattle.decimation_repair.specs.Walk.{Task, Choice, root, behind, IsDead, Branches, Visits, dead, open_at, Walks, Ends, IsChoice}
+use Rattle.refutation_log.specs.declared.node.NodeKind.TheVariants.{Branch}
+use Rattle.decimation_repair.specs.Walk.{Task, Choice, root, behind, Branches, Visits, dead, open_at, Walks, Ends, IsChoice}
 
 -- ---- a forest: one refuting tree for each pending task, one after another in pre-order
 

@@ -1,15 +1,15 @@
 -- How the walk moves: domains are closed, a package is chosen, a choice goes on to its next state or is dropped.
-use Rattle.std.proofs.Common.{◌≡◌, ◌≢◌, ℕ, zero, suc, ◌+◌, ◌-◌, ◌<◌, ◌≤◌, Bool, true, false, not, ◌&&◌, ◌||◌, List, [], ◌∷◌, ◌++◌, length, get_or, set, map, take, refl, sym, ◌∙◌, ap, subst, arith, inl, inr, eqb, cond, Option, Some, None, length-append, take-suc-set}
+use Rattle.std.proofs.Common.{◌≡◌, ◌≢◌, ℕ, zero, suc, ◌+◌, ◌<◌, ◌≤◌, Bool, true, false, not, ◌||◌, List, [], ◌∷◌, ◌++◌, length, get_or, set, map, take, refl, sym, ◌∙◌, ap, subst, arith, inl, inr, eqb, Option, Some, length-append, take-suc-set}
 use Rattle.std.proofs.lemmas.Bool.{cases_eq, cases_lt, cases_Bool, and_parts, and_from, eqb-true, eq-eqb, or_cases}
 use Rattle.std.proofs.lemmas.Bool.Decides.{eqb_tells}
-use Rattle.std.proofs.lemmas.List.{get_or-take, get_or-set_same, get_or-set_other, length-set, take-append-le, take-set-le, length-take-le, take_all, get_or_append_left, map-append, length-map, get_or-map}
-use Rattle.std.proofs.lemmas.List.Folds.{list_any_at}
+use Rattle.std.proofs.lemmas.List.{get_or-take, get_or-set_same, length-set, take-set-le, length-take-le, take_all, get_or_append_left, map-append, length-map, get_or-map}
+use Rattle.std.proofs.lemmas.List.Folds.{list_any_at, list_all-append}
 use Rattle.std.proofs.lemmas.Map.Steps.{length-le_from_distinct_below}
 use Rattle.std.proofs.lemmas.Map.Keys.{IsDistinct-from_apart}
 use Rattle.std.proofs.Math.Seq.{take-length, get_or-append_seam, take-append_seam}
 use Rattle.std.specs.List.{IsDistinct, list_any}
 use Rattle.version_graph.specs.Graph.{Graph, packages, states, is_offered}
-use Rattle.version_graph.specs.Family.{Family, InClosure, HasEmpty, IsFilled, IsClosureOf, LiesBetween, IsBelow, narrowed, agrees, under, ClosingGoesOn}
+use Rattle.version_graph.specs.Family.{Family, InClosure, HasEmpty, IsClosureOf, LiesBetween, narrowed, agrees, under, ClosingGoesOn}
 use Rattle.version_graph.specs.Domain.{Rows, has, size_of}
 use Rattle.version_graph.specs.Noted.{History, Holds, left_by}
 use Rattle.version_graph.proofs.FamilyLemmas.{closure-largest}
@@ -17,12 +17,12 @@ use Rattle.graph_pruning.specs.Closing.{IsClosedFrom}
 use Rattle.refutation_log.specs.Refutes.{Prefix, is_chosen}
 use Rattle.refutation_log.specs.declared.node.Node.{Node}
 use Rattle.refutation_log.specs.declared.node.NodeKind.TheVariants.{Branch}
-use Rattle.decimation_repair.specs.Walk.{Task, Choice, root, behind, Branches, Visits, open_at, Walks}
+use Rattle.decimation_repair.specs.Walk.{Task, root, behind, Visits, open_at, Walks}
 use Rattle.decimation_repair.specs.Choice.{IsUndecided, FirstChoice}
 use Rattle.decimation_repair.specs.Path.{nothing, chosen_at, prefix_of, before, domains_at, IsChosenAt, IsPath, IsFirstWide, down, untried, pending, entered, task_of, Arrived, Closed, Dead, Left}
 use Rattle.decimation_repair.specs.declared.path.Chosen.{Chosen}
 use Rattle.decimation_repair.proofs.EndLemmas.{agree-at}
-use Rattle.decimation_repair.proofs.StandLemmas.{Agree, front-less, same-chosen, same-before, same-domains, same-pending, same-at, same-taken, same-family, between-closed, between-empty, filled-not-empty, first-choice, count-of-down, walks-more, down-next, down-none, down-alike, undecided-here, decided-here, known-under}
+use Rattle.decimation_repair.proofs.StandLemmas.{Agree, front-less, take-front, same-chosen, same-before, same-pending, same-at, same-taken, same-family, between-closed, between-empty, filled-not-empty, first-choice, count-of-down, walks-more, down-next, down-none, down-alike, undecided-here, decided-here}
 
 -- ---- the domains are closed
 
@@ -285,3 +285,163 @@ branch-left g path d t nodes more c x w f state mark v e = record {
       (subst (Walks g FirstChoice (root ∷ []) (nodes ++ x ∷ [])) (sym (branch-pending g path d t nodes c w state mark))
       (walks-more g FirstChoice nodes (root ∷ []) (task_of path) (pending g path t.notes (length path)) (behind (prefix_of path) c.package (down (has d c.package) (states g c.package))) x w.walks v));
 }
+
+-- ---- back to the deepest choice
+
+-- notes cut back to a later mark agree at each mark before
+cut-marks : (g : Graph) (path : List Chosen) (notes more : List (ℕ × ℕ)) (n : ℕ) → IsPath g path notes → length path ≡ suc n → take (length (take (chosen_at path n).mark notes)) more ≡ take (chosen_at path n).mark notes →
+    (d : ℕ) → d < n → take (chosen_at path d).mark more ≡ take (chosen_at path d).mark notes
+cut-marks g path notes more n p long e d h =
+    let m = (chosen_at path n).mark in
+    let cut = take m notes in
+    let low = p.rising d n h (omega (arith, long)) in
+    let size : length cut ≡ m = length-take-le m notes (p.at n (omega (arith, long))).mark in
+    front-less (chosen_at path d).mark (length cut) cut more (omega (arith, low, size)) (e ∙ sym (take-length cut))
+    ∙ sym (take-front (chosen_at path d).mark m notes low)
+
+-- the domains before the deepest choice
+undone : (g : Graph) (path : List Chosen) (notes : List (ℕ × ℕ)) (d : Rows) (t : History) (n : ℕ) → Holds g d t → t.notes ≡ take (chosen_at path n).mark notes →
+    (p i : ℕ) → has d p i ≡ domains_at g path notes n p i
+undone g path notes d t n h e p i = h.left p i ∙ ap (λ l. left_by g l p i) e
+
+-- ---- the choice is dropped
+
+pub dropped-left : (g : Graph) (path other : List Chosen) (notes : List (ℕ × ℕ)) (d : Rows) (t : History) (nodes : List Node) (n : ℕ) → IsPath g path notes → length path ≡ suc n →
+    Walks g FirstChoice (root ∷ []) nodes (pending g path notes (length path)) → Holds g d t → t.notes ≡ take (chosen_at path n).mark notes →
+    ((i : ℕ) → i < (chosen_at path n).state → has d (chosen_at path n).package i ≡ false) → other ≡ take n path → Left g other d t nodes
+dropped-left g path other notes d t nodes n p long w holds e none cut =
+    let m = (chosen_at path n).mark in
+    let low : m ≤ length notes = (p.at n (omega (arith, long))).mark in
+    let size : length (take m notes) ≡ m = length-take-le m notes low in
+    let count : length other ≡ n = ap length cut ∙ length-take-le n path (omega (arith, long)) in
+    let all : take n other ≡ take n path = take_all n other (omega (arith, count)) ∙ cut in
+    let a : Agree path other notes t.notes n = record {
+      front = all;
+      marks = cut-marks g path notes t.notes n p long (ap (take (length (take m notes))) e ∙ take-length (take m notes));
+    } in
+    let far : length t.notes ≡ m = ap length e ∙ size in
+    let rest : untried g path notes n ≡ [] = down-none (domains_at g path notes n (chosen_at path n).package) (chosen_at path n).state (λ i b. sym (undone g path notes d t n holds e (chosen_at path n).package i) ∙ none i b) in
+    record {
+      holds = holds;
+      path_is = record {
+        at = λ k h.
+            let inside : k < n = omega (arith, h, count) in
+            let before = p.rising k n inside (omega (arith, long)) in
+            same-at g path other notes t.notes n k a inside (omega (arith, before, far)) (p.at k (omega (arith, inside, long)));
+        rising = λ k l h b.
+            let inside : l < n = omega (arith, b, count) in
+            subst (λ (x : Chosen). x.mark ≤ (chosen_at other l).mark) (sym (same-chosen path other notes t.notes n k a (omega (arith, h, inside))))
+            (subst (λ (x : Chosen). (chosen_at path k).mark ≤ x.mark) (sym (same-chosen path other notes t.notes n l a inside)) (p.rising k l h (omega (arith, inside, long))));
+        taken = λ k h.
+            let inside : k < n = omega (arith, h, count) in
+            same-taken g path other notes t.notes n k a inside (p.taken k (omega (arith, h, count, long)));
+      };
+      walks = subst (Walks g FirstChoice (root ∷ []) nodes)
+          (ap (pending g path notes) long ∙ ap (λ xs. behind (before path n) (chosen_at path n).package xs ++ pending g path notes n) rest
+          ∙ sym (same-pending g path other notes t.notes n n a (omega arith)) ∙ ap (pending g other t.notes) (sym count)) w;
+    }
+
+-- ---- the choice goes on to its next state
+
+-- closed domains that are cut to a choice lie between those under the longer prefix and their closure
+narrowed-between : ClosingGoesOn → (g : Graph) (prefix : Prefix) (f s : Family) (p j : ℕ) → IsClosureOf g (under g prefix) f → ((q i : ℕ) → s q i ≡ narrowed f p j q i) →
+    LiesBetween g (under g (prefix ++ (p, j) ∷ [])) s
+narrowed-between law g prefix f s p j closed cut = record {
+  within = record {
+    at = λ q i t.
+        let parts = and_parts (f q i) (not (eqb q p) || eqb i j) (sym (cut q i) ∙ t) in
+        let old = (closure-largest g (under g prefix)).within q i (closed.sound q i parts.0) in
+        let both = and_parts (is_offered g q i) (agrees prefix q i) old in
+        and_from (is_offered g q i) (agrees (prefix ++ (p, j) ∷ []) q i) both.0
+        (list_all-append (λ (c : ℕ × ℕ). not (eqb q c.0) || eqb i c.1) prefix ((p, j) ∷ []) ∙ and_from (agrees prefix q i) _ both.1 (and_from (not (eqb q p) || eqb i j) true parts.1 refl));
+  };
+  whole = λ q i k. cut q i ∙ (closure-largest g (narrowed f p j)).within q i ((law g prefix p j f closed q i).1 k);
+}
+
+-- the next task comes first, and the others of the choice stay behind it
+task-front : (g : Graph) (path other : List Chosen) (notes more : List (ℕ × ℕ)) (n j : ℕ) → prefix_of other ≡ before path n ++ ((chosen_at path n).package, j) ∷ [] → length other ≡ suc n →
+    chosen_at other n ≡ record { «package» = (chosen_at path n).package; state = j; mark = (chosen_at path n).mark } → before other n ≡ before path n →
+    domains_at g other more n ≡ domains_at g path notes n → Agree path other notes more n →
+    (behind (before path n) (chosen_at path n).package (j ∷ down (domains_at g path notes n (chosen_at path n).package) j) ++ pending g path notes n)
+    ≡ task_of other ∷ pending g other more (length other)
+task-front g path other notes more n j prefix count here front domains a =
+    let c = chosen_at path n in
+    let later = behind (before path n) c.package (down (domains_at g path notes n c.package) j) in
+    let first : Task = record { prefix = before path n ++ (c.package, j) ∷ []; state = Some j } in
+    let task : task_of other ≡ first =
+    ap (λ z. record { prefix = z; state = entered other (length other) }) prefix
+    ∙ ap (λ z. record { prefix = before path n ++ (c.package, j) ∷ []; state = entered other z }) count
+    ∙ ap (λ (y : Chosen). record { prefix = before path n ++ (c.package, j) ∷ []; state = Some y.state }) here in
+    let rest : pending g other more (length other) ≡ later ++ pending g path notes n =
+    ap (pending g other more) count
+    ∙ ap (λ z. behind z (chosen_at other n).package (untried g other more n) ++ pending g other more n) front
+    ∙ ap (λ (y : Chosen). behind (before path n) y.package (down (domains_at g other more n y.package) y.state) ++ pending g other more n) here
+    ∙ ap (λ f. behind (before path n) c.package (down (f c.package) j) ++ pending g other more n) domains
+    ∙ ap (λ l. later ++ l) (same-pending g path other notes more n n a (omega arith)) in
+    sym (ap (λ z. z ∷ pending g other more (length other)) task ∙ ap (λ l. first ∷ l) rest)
+
+pub next-arrived : ClosingGoesOn → (g : Graph) (path other : List Chosen) (notes : List (ℕ × ℕ)) (d new : Rows) (t u : History) (nodes : List Node) (n j : ℕ) → IsPath g path notes → length path ≡ suc n →
+    Walks g FirstChoice (root ∷ []) nodes (pending g path notes (length path)) → Holds g d t → t.notes ≡ take (chosen_at path n).mark notes → Holds g new u → take (length t.notes) u.notes ≡ t.notes →
+    ((q i : ℕ) → has new q i ≡ narrowed (has d) (chosen_at path n).package j q i) → j < (chosen_at path n).state → has d (chosen_at path n).package j ≡ true →
+    ((i : ℕ) → j < i → i < (chosen_at path n).state → has d (chosen_at path n).package i ≡ false) →
+    other ≡ set path n (record { «package» = (chosen_at path n).package; state = j; mark = (chosen_at path n).mark }) → Arrived g other new u nodes
+next-arrived law g path other notes d new t u nodes n j p long w holds e kept earlier cut less is above changed =
+    let c = chosen_at path n in
+    let x : Chosen = record { «package» = c.package; state = j; mark = c.mark } in
+    let inside : n < length path = omega (arith, long) in
+    let own = p.at n inside in
+    let size : length (take c.mark notes) ≡ c.mark = length-take-le c.mark notes own.mark in
+    let back : take (length (take c.mark notes)) u.notes ≡ take c.mark notes = ap (λ l. take (length l) u.notes) (sym e) ∙ earlier ∙ e in
+    let count : length other ≡ suc n = ap length changed ∙ length-set path n x ∙ long in
+    let far : c.mark ≤ length u.notes = (let l = longer-length t.notes u.notes earlier in let s = ap length e in omega (arith, l, s, size)) in
+    let a : Agree path other notes u.notes n = record {
+      front = ap (take n) changed ∙ take-set-le n path n x (omega arith);
+      marks = cut-marks g path notes u.notes n p long back;
+    } in
+    let here : chosen_at other n ≡ x = ap (λ l. get_or l n nothing) changed ∙ get_or-set_same path n x nothing inside in
+    let front : before other n ≡ before path n = same-before path other notes u.notes n n a (omega arith) in
+    let cut-back : take c.mark u.notes ≡ take c.mark notes = ap (λ k. take k u.notes) (sym size) ∙ back in
+    let domains : domains_at g other u.notes n ≡ domains_at g path notes n = ap (λ (y : Chosen). left_by g (take y.mark u.notes)) here ∙ ap (left_by g) cut-back in
+    let closed : IsClosureOf g (under g (before path n)) (has d) = same-family g (under g (before path n)) (domains_at g path notes n) (has d) (undone g path notes d t n holds e) own.closed in
+    let prefix : prefix_of other ≡ before path n ++ (c.package, j) ∷ [] =
+    ap prefix_of (sym (take_all (suc n) other (omega (arith, count))) ∙ ap (take (suc n)) changed ∙ take-suc-set path n x inside) ∙ map-append as_pair (take n path) (x ∷ []) in
+    let next : untried g path notes n ≡ j ∷ down (domains_at g path notes n c.package) j =
+    down-next (domains_at g path notes n c.package) c.state j less (sym (undone g path notes d t n holds e c.package j) ∙ is) (λ i b k. sym (undone g path notes d t n holds e c.package i) ∙ above i b k) in
+    record {
+      holds = kept;
+      path_is = record {
+        at = λ k h. elim (cases_eq k n) [
+          | inl same ↦ subst (IsChosenAt g other u.notes) (sym same) (record {
+            mark = subst (λ (y : Chosen). y.mark ≤ length u.notes) (sym here) far;
+            small = subst (λ (y : Chosen). y.state ≤ states g y.package) (sym here) (let s = own.small in omega (arith, s, less));
+            closed = subst (λ y. IsClosureOf g (under g y) (domains_at g other u.notes n)) (sym front) (subst (λ f. IsClosureOf g (under g (before path n)) f) (sym domains) own.closed);
+            undecided = subst (λ y. IsUndecided g y (chosen_at other n).package) (sym front) (subst (λ (y : Chosen). IsUndecided g (before path n) y.package) (sym here) own.undecided);
+            least = λ q v b. own.least q (subst (λ y. IsUndecided g y q) front v) (subst (λ (y : Chosen). q < y.package) here b);
+          })
+          | inr ne ↦
+              let less : k < n = omega (arith, h, ne, count) in
+              let low = p.rising k n less inside in
+              same-at g path other notes u.notes n k a less (omega (arith, low, far)) (p.at k (omega (arith, less, long)))
+        ];
+        rising = λ k l h b.
+            let first = same-chosen path other notes u.notes n k a (omega (arith, h, b, count)) in
+            elim (cases_eq l n) [
+              | inl same ↦
+                  let low = p.rising k n (omega (arith, h, same)) inside in
+                  let second : chosen_at other l ≡ x = ap (chosen_at other) same ∙ here in
+                  subst (λ (y : Chosen). y.mark ≤ (chosen_at other l).mark) (sym first) (subst (λ (y : Chosen). (chosen_at path k).mark ≤ y.mark) (sym second) low)
+              | inr ne ↦
+                  let second = same-chosen path other notes u.notes n l a (omega (arith, b, ne, count)) in
+                  subst (λ (y : Chosen). y.mark ≤ (chosen_at other l).mark) (sym first) (subst (λ (y : Chosen). (chosen_at path k).mark ≤ y.mark) (sym second) (p.rising k l h (omega (arith, b, count, long))))
+            ];
+        taken = λ k h. same-taken g path other notes u.notes n k a (omega (arith, h, count)) (p.taken k (omega (arith, h, count, long)));
+      };
+      last = λ k h.
+          let same : k ≡ n = omega (arith, h, count) in
+          subst (λ z. domains_at g other u.notes z (chosen_at other z).package (chosen_at other z).state ≡ true) (sym same)
+          (ap (λ f. f (chosen_at other n).package (chosen_at other n).state) domains ∙ ap (λ (y : Chosen). domains_at g path notes n y.package y.state) here ∙ sym (undone g path notes d t n holds e c.package j) ∙ is);
+      between = subst (λ y. LiesBetween g (under g y) (has new)) (sym prefix) (narrowed-between law g (before path n) (has d) (has new) c.package j closed cut);
+      walks = subst (Walks g FirstChoice (root ∷ []) nodes)
+          (ap (pending g path notes) long ∙ ap (λ xs. behind (before path n) c.package xs ++ pending g path notes n) next
+          ∙ task-front g path other notes u.notes n j prefix count here front domains a) w;
+    }

@@ -1,23 +1,22 @@
 -- Where the walk stands: choices and notes that agree tell the same domains and the same tasks.
-use Rattle.std.proofs.Common.{◌≡◌, ◌≢◌, ℕ, zero, suc, ◌+◌, ◌-◌, ◌<◌, ◌≤◌, Bool, true, false, not, ◌&&◌, ◌||◌, List, [], ◌∷◌, ◌++◌, length, get_or, set, map, take, refl, sym, ◌∙◌, ap, subst, arith, inl, inr, eqb, cond, Option, Some, None, take-suc-set}
-use Rattle.std.proofs.lemmas.Bool.{cases_eq, cases_lt, cases_Bool, and_parts, and_from}
-use Rattle.std.proofs.lemmas.List.{get_or-take, get_or-set_same, get_or-set_other, take-append-le, take-set-le, length-take-le, take_all, get_or_append_left, get_or_default}
+use Rattle.std.proofs.Common.{◌≡◌, ◌≢◌, ℕ, zero, suc, ◌+◌, ◌<◌, ◌≤◌, Bool, true, false, List, [], ◌∷◌, ◌++◌, length, get_or, take, refl, sym, ◌∙◌, ap, subst, arith, inl, inr, cond}
+use Rattle.std.proofs.lemmas.Bool.{cases_eq, cases_lt, and_parts}
+use Rattle.std.proofs.lemmas.List.{get_or-take, take_all, get_or_default}
 use Rattle.std.proofs.lemmas.List.Sums.{count_by_more_yes, count_by_more_no, sum_by-cons}
-use Rattle.std.proofs.Math.Seq.{take-length, get_or-append_seam, take-append_seam}
 use Rattle.std.specs.List.{Contains}
-use Rattle.version_graph.specs.Graph.{Graph, packages, states, is_offered, last}
-use Rattle.version_graph.specs.Family.{Family, InClosure, HasEmpty, IsFilled, IsClosureOf, LiesBetween, IsBelow, narrowed, agrees, under}
+use Rattle.version_graph.specs.Graph.{Graph, packages, states, is_offered}
+use Rattle.version_graph.specs.Family.{Family, InClosure, HasEmpty, IsFilled, IsClosureOf, LiesBetween, agrees, under}
 use Rattle.version_graph.specs.Domain.{Rows, has, size_of, count_true}
-use Rattle.version_graph.specs.Noted.{History, Holds, left_by}
+use Rattle.version_graph.specs.Noted.{left_by}
 use Rattle.version_graph.specs.Graph.{IsKnown}
 use Rattle.version_graph.proofs.TrailLemmas.{offered_known}
 use Rattle.version_graph.proofs.RowLemmas.{none_true, some_true, only_one}
 use Rattle.version_graph.proofs.FamilyLemmas.{closes_alike, closure-largest}
 use Rattle.refutation_log.specs.Refutes.{Prefix}
 use Rattle.refutation_log.specs.declared.node.Node.{Node}
-use Rattle.decimation_repair.specs.Walk.{Task, Choice, root, behind, Visits, Walks, IsSolved}
+use Rattle.decimation_repair.specs.Walk.{Task, Choice, behind, Visits, Walks, IsSolved}
 use Rattle.decimation_repair.specs.Choice.{IsUndecided, FirstChoice}
-use Rattle.decimation_repair.specs.Path.{nothing, chosen_at, prefix_of, before, domains_at, IsChosenAt, IsPath, down, untried, pending, entered, task_of, Arrived, Closed, Dead, Left, IsFirstWide}
+use Rattle.decimation_repair.specs.Path.{nothing, chosen_at, prefix_of, before, domains_at, IsChosenAt, down, untried, pending, IsFirstWide}
 use Rattle.decimation_repair.specs.declared.path.Chosen.{Chosen}
 
 -- ---- one task more is visited
@@ -29,7 +28,7 @@ walks-more g choose (y ∷ ys) ts t us cs x (a, b, ds, e, w, r) v = (a, b, ds, e
 
 -- ---- the front of a list
 
-take-front : {X : Type 0} (d n : ℕ) (xs : List X) → d ≤ n → take d xs ≡ take d (take n xs)
+pub take-front : {X : Type 0} (d n : ℕ) (xs : List X) → d ≤ n → take d xs ≡ take d (take n xs)
 take-front zero n xs h = refl
 take-front (suc d) zero xs h = absurd (omega (arith, h))
 take-front (suc d) (suc n) [] h = refl

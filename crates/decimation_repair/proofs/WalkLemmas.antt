@@ -1,21 +1,21 @@
 -- A walk has one course, and what it finds is a solution.
-use Rattle.std.proofs.Common.{◌≡◌, ◌≢◌, ℕ, zero, suc, ◌+◌, ◌<◌, ◌≤◌, Bool, true, false, List, [], ◌∷◌, ◌++◌, length, get_or, refl, sym, ◌∙◌, ap, subst, arith, inl, inr}
+use Rattle.std.proofs.Common.{◌≡◌, ℕ, ◌<◌, false, List, [], ◌∷◌, ◌++◌, length, get_or, refl, sym, ◌∙◌, ap, subst, arith, inl, inr}
 use Rattle.std.proofs.lemmas.Bool.{and_parts, cases_lt, cases_eq}
 use Rattle.std.proofs.lemmas.List.{ext_get_or, get_or_default}
 use Rattle.std.specs.List.{Contains}
-use Rattle.version_graph.specs.Graph.{Graph, packages, is_offered, is_forbidden, IsSolution}
-use Rattle.version_graph.specs.Family.{InClosure, HasEmpty, agrees, under}
-use Rattle.version_graph.proofs.FamilyLemmas.{closure-largest, nowhere}
+use Rattle.version_graph.specs.Graph.{Graph, is_offered, is_forbidden, IsSolution}
+use Rattle.version_graph.specs.Family.{under}
+use Rattle.version_graph.proofs.FamilyLemmas.{closure-largest}
 use Rattle.refutation_log.specs.Refutes.{Prefix}
 use Rattle.refutation_log.specs.declared.node.Node.{Node}
-use Rattle.refutation_log.specs.declared.node.NodeKind.TheVariants.{Leaf, Branch}
-use Rattle.decimation_repair.specs.Walk.{Task, Choice, root, behind, IsDead, Branches, Visits, dead, open_at, Walks, IsSolved, Finds, Ends, Spends, IsChoice}
+use Rattle.refutation_log.specs.declared.node.NodeKind.TheVariants.{Branch}
+use Rattle.decimation_repair.specs.Walk.{Task, Choice, behind, Visits, dead, open_at, Walks, IsSolved, Finds, Ends, Spends, IsChoice}
 use Rattle.decimation_repair.specs.Laws.{OneWalk, FoundIsSolution}
 
 -- ---- what is found is a solution
 
-pub found-solves : FoundIsSolution
-found-solves g prefix chosen s =
+solved-solves : (g : Graph) (prefix : Prefix) (chosen : List ℕ) → IsSolved g prefix chosen → IsSolution g chosen
+solved-solves g prefix chosen s =
     let law = closure-largest g (under g prefix) in
     record {
       each = s.each;
@@ -24,6 +24,9 @@ found-solves g prefix chosen s =
           let m = law.meets p (get_or chosen p 0) q (s.here p kp) kq (λ e. ne (sym e)) in
           subst (λ j. is_forbidden g p (get_or chosen p 0) q j ≡ false) (s.alone q m.0 m.1) m.2;
     }
+
+pub found-solves : FoundIsSolution
+found-solves g budget chosen nodes f = solved-solves g f.task.prefix chosen f.solved
 
 -- ---- one course
 

@@ -1,5 +1,5 @@
 -- The choice at a prefix: the least undecided package, its greatest state first. (own rule)
-use Rattle.std.specs.Prelude.{◌≡◌, ◌≢◌, ℕ, ◌<◌, List, length, slice_index, Contains}
+use Rattle.std.specs.Prelude.{◌≢◌, ℕ, ◌<◌, List, length, slice_index, Contains}
 use Rattle.version_graph.specs.Graph.{Graph, packages}
 use Rattle.version_graph.specs.Family.{InClosure, under}
 use Rattle.refutation_log.specs.Refutes.{Prefix}

@@ -1,10 +1,10 @@
 -- What is true of the walk. The proofs ask of the choice no more than that it is lawful.
-use Rattle.std.specs.Prelude.{◌≡◌, ℕ, List, [], ◌∷◌}
-use Rattle.version_graph.specs.Graph.{Graph, IsGraph, IsSolution}
+use Rattle.std.specs.Prelude.{◌≡◌, ℕ, List}
+use Rattle.version_graph.specs.Graph.{Graph, IsSolution}
 use Rattle.refutation_log.specs.Refutes.{IsRefutation}
 use Rattle.refutation_log.specs.declared.node.Node.{Node}
 use Rattle.decimation_repair.specs.Choice.{FirstChoice}
-use Rattle.decimation_repair.specs.Walk.{Choice, IsChoice, Task, Walks, Finds, Ends, Spends, IsSolved}
+use Rattle.decimation_repair.specs.Walk.{Choice, IsChoice, Finds, Ends, Spends}
 
 -- an instance has one walk: it finds at most one solution, by one list of nodes
 pub record OneWalk (choose : Choice) : Type 0 where
@@ -24,7 +24,7 @@ ChoiceIsLawful = IsChoice FirstChoice
 
 -- what the walk finds is a solution
 abbrev pub FoundIsSolution : Type 0
-FoundIsSolution = (g : Graph) (prefix : List (ℕ × ℕ)) (chosen : List ℕ) → IsSolved g prefix chosen → IsSolution g chosen
+FoundIsSolution = (g : Graph) (budget : ℕ) (chosen : List ℕ) (nodes : List Node) → Finds g FirstChoice budget chosen nodes → IsSolution g chosen
 
 -- the nodes of a walk that ends without a solution refute the instance, so that it has none
 abbrev pub EndRefutes : Type 0

@@ -1,8 +1,8 @@
 -- Where a walk stands: the choices on the way, each with the length that the trail had before it, and what is still to
 -- be visited.
-use Rattle.std.specs.Prelude.{◌≡◌, ◌≢◌, ℕ, zero, suc, ◌+◌, ◌<◌, ◌≤◌, Bool, true, if◌then◌else◌, List, [], ◌∷◌, ◌++◌, length, slice_index_or, map, take, Option, Some, None}
+use Rattle.std.specs.Prelude.{◌≡◌, ℕ, zero, suc, ◌+◌, ◌<◌, ◌≤◌, Bool, true, if◌then◌else◌, List, [], ◌∷◌, ◌++◌, length, slice_index_or, map, take, Option, Some, None}
 use Rattle.version_graph.specs.Graph.{Graph, packages, states}
-use Rattle.version_graph.specs.Family.{Family, InClosure, HasEmpty, IsFilled, IsClosureOf, LiesBetween, under}
+use Rattle.version_graph.specs.Family.{Family, HasEmpty, IsFilled, IsClosureOf, LiesBetween, under}
 use Rattle.version_graph.specs.Domain.{has, size_of}
 use Rattle.version_graph.specs.Noted.{History, Holds, left_by}
 use Rattle.version_graph.specs.Domain.{Rows}

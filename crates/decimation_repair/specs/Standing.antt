@@ -1,5 +1,5 @@
 -- Where a search stands, and how it ends.
-use Rattle.std.specs.Prelude.{◌≡◌, ℕ, ◌+◌, ◌≤◌, Bool, true, false, List, [], length, vec_capacity}
+use Rattle.std.specs.Prelude.{◌≡◌, ℕ, ◌+◌, ◌≤◌, [], length, vec_capacity}
 use Rattle.version_graph.specs.Graph.{Graph, packages}
 use Rattle.decimation_repair.specs.Walk.{Finds, Ends, Spends}
 use Rattle.decimation_repair.specs.Choice.{FirstChoice}

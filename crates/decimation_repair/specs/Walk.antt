@@ -1,6 +1,6 @@
 -- The walk of an instance: which prefixes of choices are visited, in which order, and how it ends. A relation without a
 -- stack or an undoing: a task is a prefix still to be visited. What is chosen at a prefix is a parameter. (own rule)
-use Rattle.std.specs.Prelude.{◌≡◌, ◌≢◌, ℕ, ◌<◌, ◌≤◌, List, [], ◌∷◌, ◌++◌, length, slice_index, map, Contains, Option, Some, None}
+use Rattle.std.specs.Prelude.{◌≡◌, ℕ, ◌<◌, ◌≤◌, List, [], ◌∷◌, ◌++◌, length, slice_index, map, Contains, Option, Some, None}
 use Rattle.version_graph.specs.Graph.{Graph, packages}
 use Rattle.version_graph.specs.Family.{InClosure, HasEmpty, under}
 use Rattle.refutation_log.specs.Refutes.{Prefix}

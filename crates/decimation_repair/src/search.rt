@@ -14,7 +14,7 @@ use graph_pruning::{Closed, close, undo_to};
 use pkg_world::States;
 use refutation_log::{Log, Node, NodeKind};
 use std::alloc::{AllocError, Global};
-use version_graph::{Domains, Instance, Trail};
+use version_graph::{Domains, Instance, Trail, closing_goes_on};
 
 /// How a search ends.
 #[derive(Debug, Drop)]
@@ -188,6 +188,7 @@ impl<'a> Search<'a> {
         undo_to(&mut self.domains, &mut self.trail, last.mark);
         match next_state(&self.domains, last.package, last.state) {
             Some(state) => {
+                closing_goes_on();
                 set_state(&mut self.path, state);
                 self.domains.narrow(last.package, state, &mut self.trail);
                 true

@@ -1,5 +1,4 @@
-use Rattle.std.proofs.Common.{◌≡◌, true, false, arith, sym, ◌∙◌}
-use Rattle.version_graph.specs.Domain.{has, row}
+use Rattle.std.proofs.Common.{arith}
 use Rattle.version_graph.proofs.RowLemmas.{has_known}
 use Rattle.decimation_repair.proofs.board.state_left.Goals as goal
 

@@ -1,4 +1,4 @@
-use Rattle.std.proofs.Common.{◌≡◌, ◌∷◌, ◌++◌, [], ap, sym, ◌∙◌, subst, refl, length, length-append, arith}
+use Rattle.std.proofs.Common.{◌≡◌, ◌∷◌, [], ap, sym, ◌∙◌, subst, refl, length, length-append, arith}
 use Rattle.refutation_log.specs.declared.node.NodeKind.TheVariants.{Branch}
 use Rattle.version_graph.specs.Graph.{states}
 use Rattle.version_graph.specs.Domain.{has}

@@ -1,5 +1,4 @@
-use Rattle.std.proofs.Common.{◌≡◌, ◌∷◌, ◌++◌, [], ap, sym, ◌∙◌, subst, refl, length, arith, length-append}
-use Rattle.refutation_log.specs.declared.node.Node.{Node}
+use Rattle.std.proofs.Common.{◌≡◌, ◌∷◌, [], ap, sym, ◌∙◌, subst, refl, length, length-append}
 use Rattle.refutation_log.specs.declared.node.NodeKind.TheVariants.{Leaf}
 use Rattle.decimation_repair.specs.Walk.{IsDead, root, dead, Walks}
 use Rattle.decimation_repair.specs.Choice.{FirstChoice}

@@ -1,6 +1,4 @@
-use Rattle.std.proofs.Common.{◌≡◌, ℕ, ◌<◌, length}
-use Rattle.version_graph.specs.Graph.{packages}
-use Rattle.version_graph.specs.Domain.{has, size_of}
+use Rattle.std.proofs.Common.{length}
 use Rattle.decimation_repair.specs.Path.{task_of, pending, prefix_of}
 use Rattle.decimation_repair.proofs.StandLemmas.{solved-here, some-left}
 use Rattle.decimation_repair.proofs.search.Search.solve.Goals as goal

@@ -1,7 +1,3 @@
-use Rattle.std.proofs.Common.{◌≡◌, length}
-use Rattle.version_graph.specs.Family.{under}
-use Rattle.version_graph.specs.Domain.{has}
-use Rattle.decimation_repair.specs.Path.{prefix_of}
 use Rattle.decimation_repair.proofs.MoveLemmas.{closed-arrived, dead-arrived}
 use Rattle.decimation_repair.proofs.search.Search.visit.Goals as goal
 
