@@ -80,6 +80,15 @@ pub enum Family {
 }
 
 impl Faults {
+    /// No call fails.
+    pub fn none(alloc: Global) -> Faults {
+        Faults {
+            calls: Vec::new(alloc),
+            out: None,
+            err: None,
+        }
+    }
+
     /// Whether no call fails.
     pub fn is_empty(&self) -> bool {
         self.calls.is_empty() && self.out.is_none() && self.err.is_none()

@@ -113,7 +113,7 @@ fn line_text(
 }
 
 /// What differs between the files after a step and those before it with the changed ones on top.
-fn push_files(
+pub fn push_files(
     alloc: Global,
     before: &Files,
     changed: &Files,

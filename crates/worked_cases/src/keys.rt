@@ -5,6 +5,8 @@ use toml::{Table, Value};
 /// Why a case file gives no case.
 #[derive(Debug, Drop)]
 pub enum Stop {
+    /// The bytes are no TOML text.
+    NoToml,
     /// The key path of what breaks the format, and how it does.
     Malformed(String, &'static str),
     Memory,
@@ -44,18 +46,22 @@ fn raised(alloc: Global, key: &str, stop: Stop) -> Stop {
             Ok(keys) => Stop::Malformed(keys, how),
             Err(_) => Stop::Memory,
         },
-        Stop::Memory => Stop::Memory,
+        other => other,
     }
 }
 
 /// Refuses a table with another key than these.
 pub fn only(alloc: Global, table: &Table, keys: &[&str]) -> Result<(), Stop> {
     for key in table.keys() {
-        if !keys.contains(&key.as_str()) {
+        if !is_among(keys, key.as_str()) {
             return Err(malformed(alloc, key.as_str(), "is no key of this format"));
         }
     }
     Ok(())
+}
+
+fn is_among(keys: &[&str], key: &str) -> bool {
+    keys.iter().any(|known| *known == key)
 }
 
 fn text_of(alloc: Global, key: &str, value: &Value) -> Result<String, Stop> {

@@ -3,7 +3,10 @@
 
 mod case;
 mod differing;
+mod families;
+mod faults;
 mod keys;
+mod paths;
 mod reading;
 mod running;
 mod world;
@@ -79,13 +82,18 @@ fn show_case(rt: &HostRuntime, name: &str) -> io::Result<bool> {
 fn case_lines(alloc: Global, bytes: &[u8]) -> Result<Vec<String>, AllocError> {
     match read_and_run(alloc, bytes) {
         Ok(lines) => Ok(lines),
+        Err(Stop::NoToml) => one_line(alloc, String::from_str(alloc, "malformed: no TOML")?),
         Err(Stop::Malformed(keys, how)) => {
-            let mut lines = Vec::new(alloc);
-            lines.push(format!(in alloc; "malformed: {keys} {how}")?)?;
-            Ok(lines)
+            one_line(alloc, format!(in alloc; "malformed: {keys} {how}")?)
         }
         Err(Stop::Memory) => Err(AllocError),
     }
+}
+
+fn one_line(alloc: Global, line: String) -> Result<Vec<String>, AllocError> {
+    let mut lines = Vec::new(alloc);
+    lines.push(line)?;
+    Ok(lines)
 }
 
 fn read_and_run(alloc: Global, bytes: &[u8]) -> Result<Vec<String>, Stop> {

@@ -1,10 +1,11 @@
 //! Reads a case from the bytes of its file.
-use crate::case::{Case, Faults, Files, Step, Texts, Wanted, World};
+use crate::case::{Case, Files, Step, Texts, Wanted, World};
+use crate::faults::{families_in, faults_in};
 use crate::keys::{
     Stop, malformed, need_code, need_text, only, opt_text_or, table_at, text_or, texts_at,
     texts_of, under,
 };
-use pkg_world::{NormPath, PathFault};
+use crate::paths::path_text;
 use std::alloc::{AllocError, Global};
 use std::collections::BTreeMap;
 use toml::{Table, Value};
@@ -47,7 +48,7 @@ pub fn read_case(alloc: Global, bytes: &[u8]) -> Result<Case, Stop> {
             if error.is_memory() {
                 Err(Stop::Memory)
             } else {
-                Err(malformed(alloc, "no", "TOML"))
+                Err(Stop::NoToml)
             }
         }
     }
@@ -141,18 +142,6 @@ fn add_each(alloc: Global, table: &Table, files: &mut Files) -> Result<(), Stop>
     Ok(())
 }
 
-/// The text of a path from the root on, without `.`, `..` and empty parts.
-fn path_text(alloc: Global, key: &str, text: &str) -> Result<String, Stop> {
-    if !text.starts_with('/') {
-        return Err(malformed(alloc, key, "has a path that does not begin with /"));
-    }
-    match NormPath::join(alloc, &NormPath::root(alloc), text) {
-        Ok(path) => Ok(String::from_str(alloc, path.as_str())?),
-        Err(PathFault::Escapes) => Err(malformed(alloc, key, "has a path above the root")),
-        Err(PathFault::Memory) => Err(Stop::Memory),
-    }
-}
-
 fn steps_at(alloc: Global, table: &Table, texts: &Texts, world: &World) -> Result<Vec<Step>, Stop> {
     match table.get("steps") {
         Some(value) => match value.as_array() {
@@ -175,6 +164,9 @@ fn steps_in(
         let step = step_of(alloc, value, texts, world);
         steps.push(under(alloc, key.as_str(), step)?)?;
     }
+    if steps.is_empty() {
+        return Err(malformed(alloc, "steps", "is empty"));
+    }
     Ok(steps)
 }
 
@@ -193,13 +185,19 @@ fn step_of(alloc: Global, value: &Value, texts: &Texts, world: &World) -> Result
 
 fn read_step(alloc: Global, table: &Table, texts: &Texts, world: &World) -> Result<Step, Stop> {
     only(alloc, table, STEP_KEYS.as_slice())?;
+    let world = step_world(alloc, table, world)?;
+    let faults = faults_in(alloc, table)?;
+    let families = families_in(alloc, table, &world.files)?;
+    if !faults.is_empty() && !families.is_empty() {
+        return Err(malformed(alloc, "fails", "stands beside a family"));
+    }
     Ok(Step {
         words: words_at(alloc, table)?,
         texts: step_texts(alloc, table, texts)?,
-        world: step_world(alloc, table, world)?,
+        world,
         wanted: wanted_in(alloc, table)?,
-        faults: no_faults(alloc),
-        families: Vec::new(alloc),
+        faults,
+        families,
     })
 }
 
@@ -269,13 +267,5 @@ fn told_at(alloc: Global, table: &Table) -> Result<String, Stop> {
     match told.as_str() {
         "Whole" | "Failed" | "Memory" => Ok(told),
         _ => Err(malformed(alloc, "told", "is not Whole, Failed or Memory")),
-    }
-}
-
-fn no_faults(alloc: Global) -> Faults {
-    Faults {
-        calls: Vec::new(alloc),
-        out: None,
-        err: None,
     }
 }

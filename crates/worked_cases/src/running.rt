@@ -1,9 +1,10 @@
 //! Runs the steps of a case.
-use crate::case::{Case, Faults, Step, Texts};
+use crate::case::{Case, Faults, Step, Texts, World};
 use crate::differing::{Answer, differences};
+use crate::families::family_lines;
 use crate::keys::{Stop, malformed, under};
 use crate::world::{files_in, mem_store, sure_store};
-use pkg_top::{Ended, PlaceFault, Told, place_from, run};
+use pkg_top::{PlaceFault, Told, place_from, run};
 use pkg_world::{MemSink, Place, SureSink};
 use std::alloc::{AllocError, Global};
 
@@ -20,7 +21,8 @@ pub fn run_case(alloc: Global, case: &Case) -> Result<Vec<String>, Stop> {
     Ok(lines)
 }
 
-fn push_labelled(
+/// Pushes the lines, each behind a label.
+pub fn push_labelled(
     alloc: Global,
     label: &str,
     found: &Vec<String>,
@@ -36,15 +38,31 @@ fn push_labelled(
 fn run_step(alloc: Global, step: &Step) -> Result<Vec<String>, Stop> {
     let place = place_of(alloc, &step.texts)?;
     let mut lines = Vec::new(alloc);
-    let answer = mem_answer(alloc, step, &place)?;
-    let found = differences(alloc, &step.world.files, &step.wanted, &answer)?;
-    push_labelled(alloc, ": ", &found, &mut lines)?;
-    if step.faults.is_empty() {
+    let answer = mem_answer(alloc, step, &place, &step.world, &step.faults)?;
+    push_differences(alloc, ": ", step, &answer, &mut lines)?;
+    if step.faults.is_empty() && lines.is_empty() {
         let answer = sure_answer(alloc, step, &place)?;
-        let found = differences(alloc, &step.world.files, &step.wanted, &answer)?;
-        push_labelled(alloc, ", over what never fails: ", &found, &mut lines)?;
+        push_differences(
+            alloc,
+            ", over what never fails: ",
+            step,
+            &answer,
+            &mut lines,
+        )?;
     }
+    push_labelled(alloc, "", &family_lines(alloc, step, &place)?, &mut lines)?;
     Ok(lines)
+}
+
+fn push_differences(
+    alloc: Global,
+    label: &str,
+    step: &Step,
+    answer: &Answer,
+    lines: &mut Vec<String>,
+) -> Result<(), AllocError> {
+    let found = differences(alloc, &step.world.files, &step.wanted, answer)?;
+    push_labelled(alloc, label, &found, lines)
 }
 
 fn place_of(alloc: Global, texts: &Texts) -> Result<Place, Stop> {
@@ -73,10 +91,16 @@ fn text_of(text: &Option<String>) -> Option<&str> {
 }
 
 /// The answer over a store and sinks that fail where they are told to.
-fn mem_answer(alloc: Global, step: &Step, place: &Place) -> Result<Answer, Stop> {
-    let mut store = mem_store(alloc, &step.world)?;
-    let mut out = MemSink::make(alloc, step.faults.out)?;
-    let mut err = MemSink::make(alloc, step.faults.err)?;
+pub fn mem_answer(
+    alloc: Global,
+    step: &Step,
+    place: &Place,
+    world: &World,
+    faults: &Faults,
+) -> Result<Answer, Stop> {
+    let mut store = mem_store(alloc, world, faults)?;
+    let mut out = MemSink::make(alloc, faults.out)?;
+    let mut err = MemSink::make(alloc, faults.err)?;
     let words = step.words.as_slice();
     let ended = run(alloc, words, place, &mut store, &mut out, &mut err);
     let files = files_in(alloc, &mut store)?;
