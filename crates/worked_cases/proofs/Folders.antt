@@ -44,7 +44,7 @@ roomy (name ∷ path) (Some (folder files)) h =
 pub has_room : (path : Path) (files : Files) → HasNoFile files → IsSome (with_leaf some_folder path files)
 has_room path files h =
     let (inner, is, none) = roomy path (Some (folder files)) h in
-    rw is tt
+    rw is refl
 
 pub stays : (path : Path) (files new : Files) → HasNoFile files → with_leaf some_folder path files ≡ Some new → HasNoFile new
 stays path files new h made =

@@ -1,11 +1,11 @@
 //! Runs the steps of a case.
-use crate::case::{Case, Faults, Step, Texts, World};
+use crate::case::{Case, Faults, Files, Step, Texts, World};
 use crate::differing::{Answer, differences};
 use crate::families::family_lines;
 use crate::keys::{Stop, malformed, under};
 use crate::world::{files_in, mem_store, sure_store};
 use pkg_top::{PlaceFault, Told, place_from, run};
-use pkg_world::{MemSink, Place, SureSink};
+use pkg_world::{MemSink, Place, Sink, Store, SureSink};
 use std::alloc::{AllocError, Global};
 
 /// Runs the steps, each over a world of its own, and gives the lines of what differs.
@@ -101,16 +101,9 @@ pub fn mem_answer(
     let mut store = mem_store(alloc, world, faults)?;
     let mut out = MemSink::make(alloc, faults.out)?;
     let mut err = MemSink::make(alloc, faults.err)?;
-    let words = step.words.as_slice();
-    let ended = run(alloc, words, place, &mut store, &mut out, &mut err);
+    let ending = end_of(alloc, step, place, &mut store, &mut out, &mut err);
     let files = files_in(alloc, &mut store)?;
-    Ok(Answer {
-        status: ended.status.code(),
-        told: told_word(&ended.told),
-        out: Vec::from_slice(alloc, out.text())?,
-        err: Vec::from_slice(alloc, err.text())?,
-        files,
-    })
+    Ok(answer_of(alloc, ending, out.text(), err.text(), files)?)
 }
 
 /// The answer over a store and sinks that never fail.
@@ -118,14 +111,37 @@ fn sure_answer(alloc: Global, step: &Step, place: &Place) -> Result<Answer, Stop
     let mut store = sure_store(alloc, &step.world)?;
     let mut out = SureSink::make(alloc)?;
     let mut err = SureSink::make(alloc)?;
-    let words = step.words.as_slice();
-    let ended = run(alloc, words, place, &mut store, &mut out, &mut err);
+    let ending = end_of(alloc, step, place, &mut store, &mut out, &mut err);
     let files = files_in(alloc, &mut store)?;
+    Ok(answer_of(alloc, ending, out.text(), err.text(), files)?)
+}
+
+/// Runs the words of a step, and says with which exit code and how the error line fared.
+fn end_of<S: Store, O: Sink, E: Sink>(
+    alloc: Global,
+    step: &Step,
+    place: &Place,
+    store: &mut S,
+    out: &mut O,
+    err: &mut E,
+) -> (u8, &'static str) {
+    let ended = run(alloc, step.words.as_slice(), place, store, out, err);
+    (ended.status.code(), told_word(&ended.told))
+}
+
+fn answer_of(
+    alloc: Global,
+    ending: (u8, &'static str),
+    out: &[u8],
+    err: &[u8],
+    files: Files,
+) -> Result<Answer, AllocError> {
+    let (status, told) = ending;
     Ok(Answer {
-        status: ended.status.code(),
-        told: told_word(&ended.told),
-        out: Vec::from_slice(alloc, out.text())?,
-        err: Vec::from_slice(alloc, err.text())?,
+        status,
+        told,
+        out: Vec::from_slice(alloc, out)?,
+        err: Vec::from_slice(alloc, err)?,
         files,
     })
 }
