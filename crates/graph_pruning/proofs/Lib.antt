@@ -1,1 +1,3 @@
 pub mod SpreadLemmas
+pub mod PruneLemmas
+pub mod ReduceLemmas

@@ -1,2 +1,4 @@
 pub mod Closing
 pub mod Spread
+pub mod Pruned
+pub mod Reduced
