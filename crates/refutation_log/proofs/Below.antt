@@ -3,30 +3,17 @@ use Rattle.std.proofs.Common.{◌≡◌, ℕ, Bool, true, false, not, ◌&&◌, 
 use Rattle.std.proofs.lemmas.Bool.{and_parts, and_from, or_parts, or_from}
 use Rattle.std.proofs.lemmas.List.Folds.{list_all-append, list_any-append}
 use Rattle.version_graph.specs.Graph.{Graph, is_offered}
-use Rattle.version_graph.specs.Family.{Family, IsStable, IsWithin, InClosure, HasEmpty, narrowed, agrees, under}
+use Rattle.version_graph.specs.Family.{Family, IsStable, IsWithin, IsBelow, InClosure, HasEmpty, narrowed, agrees, under}
+use Rattle.version_graph.proofs.FamilyLemmas.{below_within}
 use Rattle.refutation_log.specs.Tree.{Tree, Children, leaf, branch, done, child}
 use Rattle.refutation_log.specs.Refutes.{Refutes, EachRefutes, is_chosen, IsApart, AreApart, Prefix}
 use Rattle.refutation_log.specs.Within.{RefutesIn, EachRefutesIn, choose}
-
--- what is closed within the inner domains is closed within the outer ones
-pub record IsBelow (g : Graph) (inner outer : Family) : Type 0 where
-  pub below : (p i : ℕ) → InClosure g inner p i → InClosure g outer p i
 
 -- a family within one with smaller closure stands within the other
 family_below : (g : Graph) (inner outer f : Family) → IsBelow g inner outer → IsStable g f → IsWithin f inner → IsWithin f outer
 family_below g inner outer f b stable w = record {
   at = λ p i here.
       let k = b.below p i (record { family = f; stable = stable; within = w; here = here }) in k.within.at p i k.here;
-}
-
-pub below_within : (g : Graph) (inner outer : Family) → IsWithin inner outer → IsBelow g inner outer
-below_within g inner outer w = record {
-  below = λ p i k. record {
-    family = k.family;
-    stable = k.stable;
-    within = record { at = λ q j h. w.at q j (k.within.at q j h) };
-    here = k.here;
-  };
 }
 
 pub below_cut : (g : Graph) (inner outer : Family) (p i : ℕ) → IsBelow g inner outer → IsBelow g (narrowed inner p i) (narrowed outer p i)

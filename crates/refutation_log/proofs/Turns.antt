@@ -6,11 +6,11 @@ use Rattle.std.proofs.Math.Seq.{set-set}
 use Rattle.refutation_log.specs.declared.node.Node.{Node}
 use Rattle.refutation_log.specs.declared.node.NodeKind.TheVariants.{Branch}
 use Rattle.version_graph.specs.Graph.{Graph, packages, is_state}
-use Rattle.version_graph.specs.Family.{Family, InClosure, narrowed}
+use Rattle.version_graph.specs.Family.{Family, InClosure, narrowed, IsBelow}
 use Rattle.refutation_log.specs.Tree.{preorder}
 use Rattle.refutation_log.specs.Within.{choose}
 use Rattle.refutation_log.specs.Found.{TreeAt, NoTreeAt, NoChildrenAt, ChildrenTake, BranchAt, NoBranchAt}
-use Rattle.refutation_log.proofs.Below.{IsBelow, refutes_within}
+use Rattle.refutation_log.proofs.Below.{refutes_within}
 use Rattle.refutation_log.proofs.Steps.{branch_found, branch_refused, no_tree_at_end, no_child_at_end, uncovered}
 
 pub tree_within : (g : Graph) (inner outer : Family) (ch : ℕ → Bool) (nodes rest : List Node) → IsBelow g inner outer → TreeAt g outer ch nodes rest → TreeAt g inner ch nodes rest

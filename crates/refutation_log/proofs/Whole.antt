@@ -4,12 +4,12 @@ use Rattle.std.proofs.lemmas.Bool.{eqb-true, eq-eqb}
 use Rattle.refutation_log.specs.declared.node.Node.{Node}
 use Rattle.refutation_log.specs.declared.node.NodeKind.TheVariants.{Leaf}
 use Rattle.version_graph.specs.Graph.{Graph}
-use Rattle.version_graph.specs.Family.{Family, HasEmpty, under}
+use Rattle.version_graph.specs.Family.{Family, HasEmpty, under, IsBelow}
 use Rattle.refutation_log.specs.Tree.{Tree, leaf, branch, preorder}
 use Rattle.refutation_log.specs.Refutes.{IsRefutation, Refutes, is_chosen}
 use Rattle.refutation_log.specs.Within.{RefutesIn}
 use Rattle.refutation_log.specs.Found.{TreeAt, IsLeaf, IsWhole, IsSettledAs}
-use Rattle.refutation_log.proofs.Below.{IsBelow, empty_below, refutes_within, in_domains, from_domains}
+use Rattle.refutation_log.proofs.Below.{empty_below, refutes_within, in_domains, from_domains}
 use Rattle.refutation_log.proofs.Unique.{same_tree, same_parts}
 use Rattle.refutation_log.proofs.Steps.{first_state}
 

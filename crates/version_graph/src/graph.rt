@@ -6,7 +6,7 @@ ghost use Rattle.version_graph.specs.Family.{Meets};
 ghost use Rattle.version_graph.specs.Domain.{has, IsFor};
 
 use crate::domain::Domains;
-use crate::needing::Needs;
+use crate::needs::Needs;
 use pkg_world::States;
 use std::alloc::{AllocError, Global};
 use std::collections::BTreeSet;
@@ -59,6 +59,15 @@ impl Instance {
         ensures small { result ≤ 65536 }
     {
         self.total
+    }
+
+    /// Whether the state i of p isn't forbidden alone. It takes no memory.
+    pub fn is_offered(&self, p: u32, i: u32) -> bool
+        requires known { p < packages self.now }
+        requires state { i < states self.now p }
+        ensures { result ≡ is_offered self.now p i }
+    {
+        !self.barred[p as usize][i as usize]
     }
 
     /// Whether the state i of p and the state j of q aren't forbidden together. It takes no memory.

@@ -5,8 +5,9 @@ use Rattle.version_graph.specs.Family.{InClosure, narrowed}
 use Rattle.version_graph.specs.Domain.{has}
 use Rattle.refutation_log.specs.Found.{NoChildrenAt, ChildrenTake, IsSettledAs}
 use Rattle.refutation_log.specs.Scratch.{marks}
-use Rattle.refutation_log.proofs.Below.{below_within}
-use Rattle.refutation_log.proofs.Holding.{earlier_trans, offered, same_left, same_closure, settled_open, settled_shut}
+use Rattle.version_graph.proofs.FamilyLemmas.{below_within, same_closure}
+use Rattle.version_graph.proofs.TrailLemmas.{held_offered}
+use Rattle.refutation_log.proofs.Holding.{earlier_trans, same_left, settled_open, settled_shut}
 use Rattle.refutation_log.proofs.Steps.{leaf_found, leaf_refused, branch_refused, none_left, no_child_without_state, no_child_past_states, no_child_that_refutes, no_child_after, child_found}
 use Rattle.refutation_log.proofs.Turns.{tree_of_branch, found_within, no_tree_without_node, no_child_without_node, tree_same, no_tree_same, tree_shorter, still_whole, crossed_off, marks_set, marks_back, branch_when_covered, branch_when_uncovered}
 use Rattle.refutation_log.proofs.scratch.RefuteScratch.+refuting.Goals as goal
@@ -146,7 +147,7 @@ branch-returns-then-covered-clause-found t c =
     let d = same_left _ _ _ _ _ c.requires.fits.domains r.fits.domains r.extended.trail in
     let m = marks_set s.chosen.items c.args.p (omega (arith, c.requires.fits.chosen, c.requires.known)) in
     branch_when_covered g (has s.domains) (marks s) c.args.p c.args.children c.args.nodes.now (λ x. x.now) (has s.missing c.args.p) (has c.children-found.new.self.missing c.args.p) c.children-found.result c.requires.known c.requires.free
-    (λ i k. c.requires.fits.whole c.args.p i c.requires.free (offered _ _ _ c.args.p i c.requires.fits.domains (k.within.at c.args.p i k.here)))
+    (λ i k. c.requires.fits.whole c.args.p i c.requires.free (held_offered _ _ _ c.requires.fits.domains c.args.p i (k.within.at c.args.p i k.here)))
     (λ i k. c.if-covered.ensures i (subst (λ f. InClosure g f c.args.p i) (sym d) k))
     (subst (λ ch. MatchOption c.children-found.result (NoChildrenAt g (has s.domains) ch c.args.p c.args.children c.args.nodes.now) (λ x. ChildrenTake g (has s.domains) ch c.args.p c.args.children c.args.nodes.now x.now (has s.missing c.args.p) (has c.children-found.new.self.missing c.args.p))) m r.found)
 

@@ -3,8 +3,8 @@ use Rattle.version_graph.specs.Family.{under}
 use Rattle.version_graph.specs.Domain.{has}
 use Rattle.refutation_log.specs.Refutes.{is_chosen}
 use Rattle.refutation_log.specs.Scratch.{marks}
-use Rattle.refutation_log.proofs.Below.{below_within}
-use Rattle.refutation_log.proofs.Holding.{same_closure, full_domains}
+use Rattle.version_graph.proofs.FamilyLemmas.{below_within, same_closure}
+use Rattle.refutation_log.proofs.Holding.{full_domains}
 use Rattle.refutation_log.proofs.Whole.{no_refutation_of_nothing, no_refutation_with_state, whole_is_refutation}
 use Rattle.refutation_log.proofs.scratch.RefuteScratch.accepts.Goals as goal
 
