@@ -1,7 +1,7 @@
 -- What is true of a pruning of an instance.
-use Rattle.std.proofs.Common.{◌≡◌, ◌≢◌, ℕ, zero, suc, ◌<◌, Bool, true, false, not, ◌&&◌, ◌||◌, [], refl, sym, ◌∙◌, subst, ap, arith, inl, inr, ◌⊎◌, eqb, ltb}
+use Rattle.std.proofs.Common.{◌≡◌, ◌≢◌, ℕ, zero, suc, ◌<◌, Bool, true, false, not, ◌&&◌, ◌||◌, List, [], length, get_or, refl, sym, ◌∙◌, subst, ap, arith, inl, inr, ◌⊎◌, eqb, ltb}
 use Rattle.std.proofs.lemmas.Bool.{cases_eq, cases_lt, cases_Bool, both_ways, and_parts, and_from, or_cases, or_left, or_right, eq-eqb, eqb-true, ne_eqb, ltb-true, lt-ltb, not-true, false_from_ne_true}
-use Rattle.version_graph.specs.Graph.{Graph, packages, states, last, is_barred, is_offered, does_need, is_forbidden, IsGraph, IsPlain}
+use Rattle.version_graph.specs.Graph.{Graph, packages, states, last, is_barred, is_offered, does_need, is_forbidden, IsGraph, IsPlain, IsSolution}
 use Rattle.version_graph.specs.Family.{Family, IsWithin, IsStable, IsFilled, IsClosureOf, under}
 use Rattle.graph_pruning.specs.Pruned.{Pruning, left, AreKept, SameIn, StandsFor, AreStanding, IsPruningOf, SamePruning}
 use Rattle.graph_pruning.specs.Reduced.{IsStanding}
@@ -54,6 +54,10 @@ offered_known g p i e =
     let parts = and_parts (ltb p (packages g)) _ e in
     let more = and_parts (ltb i (states g p)) _ parts.1 in
     (ltb-true _ _ parts.0, ltb-true _ _ more.0)
+
+pub offered_unbarred : (g : Graph) (p i : ℕ) → is_offered g p i ≡ true → is_barred g p i ≡ false
+unfolding is_offered
+offered_unbarred g p i e = not-true _ (and_parts (ltb i (states g p)) _ (and_parts (ltb p (packages g)) _ e).1).1
 
 pub offered_from : (g : Graph) (p i : ℕ) → p < packages g → i < states g p → is_barred g p i ≡ false → is_offered g p i ≡ true
 unfolding is_offered
@@ -171,6 +175,21 @@ both_alike g f standing p i q k c apart here there =
     ∙ sym (forbidden-flip g p (standing p i) q (standing q k) apart)
     )
 
+-- ---- pruned domains
+
+pub left_kept : (g : Graph) (pr : Pruning) (p i : ℕ) → pr.kept p ≡ true → pr.closed p i ≡ true → left g pr p i ≡ true
+left_kept g pr p i kept here = and_from _ _ here (or_left _ _ kept)
+
+pub left_absent : (g : Graph) (pr : Pruning) (p i : ℕ) → pr.kept p ≡ false → left g pr p i ≡ true → i ≡ last g p
+left_absent g pr p i out e =
+    elim (or_cases _ _ (and_parts (pr.closed p i) _ e).1) [
+      | inl kept ↦ absurd (both_ways _ out kept)
+      | inr same ↦ eqb-true _ _ same
+    ]
+
+pub left_closed : (g : Graph) (pr : Pruning) (p i : ℕ) → left g pr p i ≡ true → pr.closed p i ≡ true
+left_closed g pr p i e = (and_parts (pr.closed p i) _ e).0
+
 -- ---- packages that are left out
 
 module _ (g : Graph) (pr : Pruning) (graph : IsGraph g) (plain : IsPlain g) (k : IsPruningOf g pr) (filled : IsFilled g pr.closed) where
@@ -255,15 +274,33 @@ module _ (g : Graph) (pr : Pruning) (graph : IsGraph g) (plain : IsPlain g) (k :
       ((closed_before g pr.closed with_absent k.closure absent_stable absent_within).at p (last g p) (or_right (pr.closed p (last g p)) _ (absent_from p known out)))
       (or_right (pr.kept p) (eqb (last g p) (last g p)) (eq-eqb (last g p) (last g p) refl))
 
-pub left_kept : (g : Graph) (pr : Pruning) (p i : ℕ) → pr.kept p ≡ true → pr.closed p i ≡ true → left g pr p i ≡ true
-left_kept g pr p i kept here = and_from _ _ here (or_left _ _ kept)
+  -- states that are left, one of each package, are a solution where those of kept packages are allowed together
+  module _ (xs : List ℕ) (inside : (p : ℕ) → p < packages g → left g pr p (get_or xs p 0) ≡ true)
+      (both : (p q : ℕ) → p < packages g → q < packages g → p ≢ q → pr.kept p ≡ true → pr.kept q ≡ true → is_forbidden g p (get_or xs p 0) q (get_or xs q 0) ≡ false) where
+    kept_absent : (p q : ℕ) → p < packages g → q < packages g → p ≢ q → pr.kept p ≡ true → pr.kept q ≡ false → is_forbidden g p (get_or xs p 0) q (get_or xs q 0) ≡ false
+    kept_absent p q first second apart kept out =
+        ap (is_forbidden g p (get_or xs p 0) q) (left_absent g pr q (get_or xs q 0) out (inside q second))
+        ∙ no_need p (get_or xs p 0) q kept (left_closed g pr p (get_or xs p 0) (inside p first)) out second (λ e. apart (sym e))
 
-pub left_absent : (g : Graph) (pr : Pruning) (p i : ℕ) → pr.kept p ≡ false → left g pr p i ≡ true → i ≡ last g p
-left_absent g pr p i out e =
-    elim (or_cases _ _ (and_parts (pr.closed p i) _ e).1) [
-      | inl kept ↦ absurd (both_ways _ out kept)
-      | inr same ↦ eqb-true _ _ same
-    ]
+    left_allowed : (p q : ℕ) → p < packages g → q < packages g → p ≢ q → is_forbidden g p (get_or xs p 0) q (get_or xs q 0) ≡ false
+    left_allowed p q first second apart =
+        elim (cases_Bool (pr.kept p)) [
+          | inl one ↦ elim (cases_Bool (pr.kept q)) [
+            | inl two ↦ both p q first second apart one two
+            | inr out ↦ kept_absent p q first second apart one out
+          ]
+          | inr away ↦ elim (cases_Bool (pr.kept q)) [
+            | inl two ↦ forbidden-flip g p (get_or xs p 0) q (get_or xs q 0) apart ∙ kept_absent q p second first (λ e. apart (sym e)) two away
+            | inr out ↦
+                ap (λ x. is_forbidden g p x q (get_or xs q 0)) (left_absent g pr p (get_or xs p 0) away (inside p first))
+                ∙ ap (is_forbidden g p (last g p) q) (left_absent g pr q (get_or xs q 0) out (inside q second))
+                ∙ plain.apart p q first second apart
+          ]
+        ]
 
-pub left_closed : (g : Graph) (pr : Pruning) (p i : ℕ) → left g pr p i ≡ true → pr.closed p i ≡ true
-left_closed g pr p i e = (and_parts (pr.closed p i) _ e).0
+    pub left_solves : length xs ≡ packages g → IsSolution g xs
+    left_solves each = record {
+      each = each;
+      offered = λ p known. closed_offered g pr.closed p (get_or xs p 0) k.closure (left_closed g pr p (get_or xs p 0) (inside p known));
+      allowed = left_allowed;
+    }

@@ -3,12 +3,13 @@ use Rattle.std.proofs.Common.{◌≡◌, ◌≢◌, ℕ, zero, suc, ◌<◌, ◌
 use Rattle.std.proofs.Math.ListN.{get_or-append}
 use Rattle.std.proofs.Math.Seq.{get_or-append_seam}
 use Rattle.std.proofs.lemmas.Bool.{cases_eq, cases_lt, cases_order, cases_Bool, both_ways, and_parts, and_from, or_cases, or_left, or_right, eq-eqb, eqb-true, ne_eqb, lt-ltb, ltb-true, not-true}
-use Rattle.version_graph.specs.Graph.{Graph, packages, states, last, is_offered, is_forbidden, IsSolution}
+use Rattle.version_graph.specs.Graph.{Graph, packages, states, last, is_barred, is_offered, is_forbidden, IsSolution}
 use Rattle.version_graph.specs.Family.{Family, IsWithin, IsStable, InClosure, HasEmpty, agrees, under, EmptyIsEverywhere, SolutionIsClosed}
+use Rattle.version_graph.specs.Part.{Part, package_of, state_of}
 use Rattle.graph_pruning.specs.Pruned.{Pruning, left}
-use Rattle.graph_pruning.specs.Reduced.{Before, IsReduction, before, AreKnown, ClosuresCorrespond, IsCutTo, IsWidenedTo, SolutionsCorrespond}
+use Rattle.graph_pruning.specs.Reduced.{IsReduction, before, AreKnown, ClosuresCorrespond, IsCutTo, IsWidenedTo, SolutionsCorrespond}
 use Rattle.graph_pruning.proofs.SpreadLemmas.{forbidden-flip}
-use Rattle.graph_pruning.proofs.PruneLemmas.{some_below, some_from, some_parts, closed_offered, offered_known, offered_from, closed_before, standing_itself, both_alike, kept_known, no_need, absent_left, left_kept, left_absent, left_closed}
+use Rattle.graph_pruning.proofs.PruneLemmas.{some_below, some_from, some_parts, closed_offered, offered_known, offered_unbarred, offered_from, closed_before, standing_itself, both_alike, kept_known, no_need, absent_left, left_kept, left_absent, left_closed, left_solves}
 
 -- ---- whether a state agrees with a choice
 
@@ -27,7 +28,7 @@ choice_from q a j d f =
     ]
 
 -- one number for each place below n
-choose_below : (P : ℕ → ℕ → Type 0) (n : ℕ) → ((p : ℕ) → p < n → (x : ℕ) × P p x) → (ys : List ℕ) × (length ys ≡ n) × ((p : ℕ) → p < n → P p (get_or ys p 0))
+pub choose_below : (P : ℕ → ℕ → Type 0) (n : ℕ) → ((p : ℕ) → p < n → (x : ℕ) × P p x) → (ys : List ℕ) × (length ys ≡ n) × ((p : ℕ) → p < n → P p (get_or ys p 0))
 choose_below P zero f = ([], refl, λ p below. absurd (omega arith))
 choose_below P (suc n) f =
     let rest = choose_below P n (λ p below. f p (omega (arith, below))) in
@@ -41,11 +42,11 @@ choose_below P (suc n) f =
       ],
     )
 
-module _ (g : Graph) (pr : Pruning) (h : Graph) (b : Before) (r : IsReduction g pr h b) where
-  home : (p : ℕ) → p < packages h → b.package_of p < packages g
-  home p known = kept_known g pr r.graph r.plain r.pruning r.filled (b.package_of p) (r.reduced.sound p known)
+module _ (g : Graph) (pr : Pruning) (h : Graph) (b : Part) (r : IsReduction g pr h b) where
+  home : (p : ℕ) → p < packages h → package_of b p < packages g
+  home p known = kept_known g pr r.graph r.plain r.pruning r.filled (package_of b p) (r.reduced.sound p known)
 
-  package_same : (p q : ℕ) → p < packages h → q < packages h → b.package_of p ≡ b.package_of q → p ≡ q
+  package_same : (p q : ℕ) → p < packages h → q < packages h → package_of b p ≡ package_of b q → p ≡ q
   package_same p q first second e =
       elim (cases_order p q) [
         | inl same ↦ same
@@ -55,7 +56,7 @@ module _ (g : Graph) (pr : Pruning) (h : Graph) (b : Before) (r : IsReduction g 
         ]
       ]
 
-  state_same : (p i j : ℕ) → p < packages h → i < states h p → j < states h p → b.state_of p i ≡ b.state_of p j → i ≡ j
+  state_same : (p i j : ℕ) → p < packages h → i < states h p → j < states h p → state_of b p i ≡ state_of b p j → i ≡ j
   state_same p i j known first second e =
       elim (cases_order i j) [
         | inl same ↦ same
@@ -66,50 +67,56 @@ module _ (g : Graph) (pr : Pruning) (h : Graph) (b : Before) (r : IsReduction g 
       ]
 
   -- a closed state of a kept package is left
-  inside : (p i : ℕ) → p < packages h → pr.closed (b.package_of p) i ≡ true → left g pr (b.package_of p) i ≡ true
-  inside p i known here = left_kept g pr (b.package_of p) i (r.reduced.sound p known) here
+  inside : (p i : ℕ) → p < packages h → pr.closed (package_of b p) i ≡ true → left g pr (package_of b p) i ≡ true
+  inside p i known here = left_kept g pr (package_of b p) i (r.reduced.sound p known) here
 
   -- the number of the state that stands for a closed one
-  number : (p i : ℕ) → p < packages h → pr.closed (b.package_of p) i ≡ true → (n : ℕ) × (n < states h p) × (b.state_of p n ≡ pr.standing (b.package_of p) i)
+  number : (p i : ℕ) → p < packages h → pr.closed (package_of b p) i ≡ true → (n : ℕ) × (n < states h p) × (state_of b p n ≡ pr.standing (package_of b p) i)
   number p i known here =
-      r.reduced.states_whole p (pr.standing (b.package_of p) i) known
-      (standing_itself g (left g pr) pr.standing (b.package_of p) i r.pruning.classes (inside p i known here))
+      r.reduced.states_whole p (pr.standing (package_of b p) i) known
+      (standing_itself g (left g pr) pr.standing (package_of b p) i r.pruning.classes (inside p i known here))
+
+  unbarred : (p i : ℕ) → p < packages h → i < states h p → is_barred h p i ≡ false
+  unbarred p i known state =
+      let own = r.reduced.states_sound p i known state in
+      r.reduced.barred p i known state
+      ∙ offered_unbarred g (package_of b p) (state_of b p i) (closed_offered g pr.closed (package_of b p) (state_of b p i) r.pruning.closure (left_closed g pr (package_of b p) (state_of b p i) own.inside))
 
   -- ---- choices
 
   agrees_before : (prefix : List (ℕ × ℕ)) (q j : ℕ) → AreKnown h prefix → q < packages h → agrees prefix q j ≡ true →
-      agrees (before b prefix) (b.package_of q) (b.state_of q j) ≡ true
+      agrees (before b prefix) (package_of b q) (state_of b q j) ≡ true
   agrees_before [] q j chosen known e = refl
   agrees_before (c ∷ cs) q j chosen known e =
       let parts = and_parts (not (eqb q c.0) || eqb j c.1) (agrees cs q j) e in
-      and_from (not (eqb (b.package_of q) (b.package_of c.0)) || eqb (b.state_of q j) (b.state_of c.0 c.1)) (agrees (before b cs) (b.package_of q) (b.state_of q j))
-      (choice_from (b.package_of q) (b.package_of c.0) (b.state_of q j) (b.state_of c.0 c.1) (λ same.
+      and_from (not (eqb (package_of b q) (package_of b c.0)) || eqb (state_of b q j) (state_of b c.0 c.1)) (agrees (before b cs) (package_of b q) (state_of b q j))
+      (choice_from (package_of b q) (package_of b c.0) (state_of b q j) (state_of b c.0 c.1) (λ same.
       let at : q ≡ c.0 = package_same q c.0 known chosen.0 same in
-      ap (b.state_of q) (choice_parts q c.0 j c.1 parts.0 at) ∙ ap (λ x. b.state_of x c.1) at))
+      ap (state_of b q) (choice_parts q c.0 j c.1 parts.0 at) ∙ ap (λ x. state_of b x c.1) at))
       (agrees_before cs q j chosen.2 known parts.1)
 
-  agrees_after : (prefix : List (ℕ × ℕ)) (q i j : ℕ) → AreKnown h prefix → q < packages h → j < states h q → pr.standing (b.package_of q) i ≡ b.state_of q j →
-      agrees (before b prefix) (b.package_of q) i ≡ true → agrees prefix q j ≡ true
+  agrees_after : (prefix : List (ℕ × ℕ)) (q i j : ℕ) → AreKnown h prefix → q < packages h → j < states h q → pr.standing (package_of b q) i ≡ state_of b q j →
+      agrees (before b prefix) (package_of b q) i ≡ true → agrees prefix q j ≡ true
   agrees_after [] q i j chosen known state stands e = refl
   agrees_after (c ∷ cs) q i j chosen known state stands e =
-      let parts = and_parts (not (eqb (b.package_of q) (b.package_of c.0)) || eqb i (b.state_of c.0 c.1)) (agrees (before b cs) (b.package_of q) i) e in
+      let parts = and_parts (not (eqb (package_of b q) (package_of b c.0)) || eqb i (state_of b c.0 c.1)) (agrees (before b cs) (package_of b q) i) e in
       and_from (not (eqb q c.0) || eqb j c.1) (agrees cs q j)
       (choice_from q c.0 j c.1 (λ at.
-      let same : i ≡ b.state_of c.0 c.1 = choice_parts (b.package_of q) (b.package_of c.0) i (b.state_of c.0 c.1) parts.0 (ap b.package_of at) in
+      let same : i ≡ state_of b c.0 c.1 = choice_parts (package_of b q) (package_of b c.0) i (state_of b c.0 c.1) parts.0 (ap (package_of b) at) in
       state_same q j c.1 known state (subst (λ x. c.1 < states h x) (sym at) chosen.1) (
       sym stands
-      ∙ ap (λ x. pr.standing (b.package_of x) i) at
-      ∙ ap (pr.standing (b.package_of c.0)) same
+      ∙ ap (λ x. pr.standing (package_of b x) i) at
+      ∙ ap (pr.standing (package_of b c.0)) same
       ∙ (r.reduced.states_sound c.0 c.1 chosen.0 chosen.1).itself
-      ∙ ap (λ x. b.state_of x c.1) (sym at)
+      ∙ ap (λ x. state_of b x c.1) (sym at)
       )))
       (agrees_after cs q i j chosen.2 known state stands parts.1)
 
   agrees_absent : (prefix : List (ℕ × ℕ)) (p i : ℕ) → AreKnown h prefix → pr.kept p ≡ false → agrees (before b prefix) p i ≡ true
   agrees_absent [] p i chosen out = refl
   agrees_absent (c ∷ cs) p i chosen out =
-      and_from (not (eqb p (b.package_of c.0)) || eqb i (b.state_of c.0 c.1)) (agrees (before b cs) p i)
-      (choice_from p (b.package_of c.0) i (b.state_of c.0 c.1) (λ same. absurd (both_ways _ out (ap pr.kept same ∙ r.reduced.sound c.0 chosen.0))))
+      and_from (not (eqb p (package_of b c.0)) || eqb i (state_of b c.0 c.1)) (agrees (before b cs) p i)
+      (choice_from p (package_of b c.0) i (state_of b c.0 c.1) (λ same. absurd (both_ways _ out (ap pr.kept same ∙ r.reduced.sound c.0 chosen.0))))
       (agrees_absent cs p i chosen.2 out)
 
   -- ---- from the instance to the pruned one
@@ -121,47 +128,47 @@ module _ (g : Graph) (pr : Pruning) (h : Graph) (b : Before) (r : IsReduction g 
     s_agrees : (p i : ℕ) → s p i ≡ true → agrees (before b prefix) p i ≡ true
     s_agrees p i e = (and_parts (is_offered g p i) (agrees (before b prefix) p i) (within.at p i e)).1
 
-    s_inside : (p i : ℕ) → p < packages h → s (b.package_of p) i ≡ true → left g pr (b.package_of p) i ≡ true
-    s_inside p i known e = inside p i known ((closed_before g pr.closed s r.pruning.closure stable (record { at = s_offered })).at (b.package_of p) i e)
+    s_inside : (p i : ℕ) → p < packages h → s (package_of b p) i ≡ true → left g pr (package_of b p) i ≡ true
+    s_inside p i known e = inside p i known ((closed_before g pr.closed s r.pruning.closure stable (record { at = s_offered })).at (package_of b p) i e)
 
     -- the states that stand for those of s
     abbrev lowered : Family
     lowered p j =
         ltb p (packages h)
-        && (ltb j (states h p) && some_below (λ i. s (b.package_of p) i && eqb (pr.standing (b.package_of p) i) (b.state_of p j)) (states g (b.package_of p)))
+        && (ltb j (states h p) && some_below (λ i. s (package_of b p) i && eqb (pr.standing (package_of b p) i) (state_of b p j)) (states g (package_of b p)))
 
-    lowered_from : (p i j : ℕ) → p < packages h → j < states h p → s (b.package_of p) i ≡ true → pr.standing (b.package_of p) i ≡ b.state_of p j → lowered p j ≡ true
+    lowered_from : (p i j : ℕ) → p < packages h → j < states h p → s (package_of b p) i ≡ true → pr.standing (package_of b p) i ≡ state_of b p j → lowered p j ≡ true
     lowered_from p i j known state here stands =
         and_from (ltb p (packages h)) _ (lt-ltb _ _ known) (and_from (ltb j (states h p)) _ (lt-ltb _ _ state)
-        (some_from (λ x. s (b.package_of p) x && eqb (pr.standing (b.package_of p) x) (b.state_of p j)) (states g (b.package_of p)) i
-        (offered_known g (b.package_of p) i (s_offered (b.package_of p) i here)).1
-        (and_from (s (b.package_of p) i) _ here (eq-eqb _ _ stands))))
+        (some_from (λ x. s (package_of b p) x && eqb (pr.standing (package_of b p) x) (state_of b p j)) (states g (package_of b p)) i
+        (offered_known g (package_of b p) i (s_offered (package_of b p) i here)).1
+        (and_from (s (package_of b p) i) _ here (eq-eqb _ _ stands))))
 
     lowered_parts : (p j : ℕ) → lowered p j ≡ true →
-        (i : ℕ) × (p < packages h) × (j < states h p) × (s (b.package_of p) i ≡ true) × (pr.standing (b.package_of p) i ≡ b.state_of p j)
+        (i : ℕ) × (p < packages h) × (j < states h p) × (s (package_of b p) i ≡ true) × (pr.standing (package_of b p) i ≡ state_of b p j)
     lowered_parts p j e =
         let first = and_parts (ltb p (packages h)) _ e in
         let second = and_parts (ltb j (states h p)) _ first.1 in
-        let found = some_parts (λ x. s (b.package_of p) x && eqb (pr.standing (b.package_of p) x) (b.state_of p j)) (states g (b.package_of p)) second.1 in
-        let third = and_parts (s (b.package_of p) found.0) _ found.2 in
+        let found = some_parts (λ x. s (package_of b p) x && eqb (pr.standing (package_of b p) x) (state_of b p j)) (states g (package_of b p)) second.1 in
+        let third = and_parts (s (package_of b p) found.0) _ found.2 in
         (found.0, ltb-true _ _ first.0, ltb-true _ _ second.0, third.0, eqb-true _ _ third.1)
 
     lowered_stable : IsStable h lowered
     lowered_stable = record {
       meets = λ p j q here known apart.
           let low = lowered_parts p j here in
-          let elsewhere : b.package_of p ≢ b.package_of q = λ e. apart (package_same q p known low.1 (sym e)) in
-          let m = stable.meets (b.package_of p) low.0 (b.package_of q) low.3 (home q known) (λ e. elsewhere (sym e)) in
+          let elsewhere : package_of b p ≢ package_of b q = λ e. apart (package_same q p known low.1 (sym e)) in
+          let m = stable.meets (package_of b p) low.0 (package_of b q) low.3 (home q known) (λ e. elsewhere (sym e)) in
           let there = s_inside q m.partner known m.there in
-          let n = number q m.partner known (left_closed g pr (b.package_of q) m.partner there) in
+          let n = number q m.partner known (left_closed g pr (package_of b q) m.partner there) in
           record {
             partner = n.0;
             there = lowered_from q m.partner n.0 known n.1 m.there (sym n.2);
             allowed =
                 r.reduced.forbidden p j q n.0 low.1 low.2 known n.1 (λ e. apart (sym e))
-                ∙ ap (λ x. is_forbidden g (b.package_of p) x (b.package_of q) (b.state_of q n.0)) (sym low.4)
-                ∙ ap (λ x. is_forbidden g (b.package_of p) (pr.standing (b.package_of p) low.0) (b.package_of q) x) n.2
-                ∙ both_alike g (left g pr) pr.standing (b.package_of p) low.0 (b.package_of q) m.partner r.pruning.classes elsewhere (s_inside p low.0 low.1 low.3) there
+                ∙ ap (λ x. is_forbidden g (package_of b p) x (package_of b q) (state_of b q n.0)) (sym low.4)
+                ∙ ap (λ x. is_forbidden g (package_of b p) (pr.standing (package_of b p) low.0) (package_of b q) x) n.2
+                ∙ both_alike g (left g pr) pr.standing (package_of b p) low.0 (package_of b q) m.partner r.pruning.classes elsewhere (s_inside p low.0 low.1 low.3) there
                 ∙ m.allowed;
           };
     }
@@ -171,11 +178,11 @@ module _ (g : Graph) (pr : Pruning) (h : Graph) (b : Before) (r : IsReduction g 
       at = λ p j here.
           let low = lowered_parts p j here in
           and_from (is_offered h p j) (agrees prefix p j)
-          (offered_from h p j low.1 low.2 (r.reduced.offered p j low.1 low.2))
-          (agrees_after prefix p low.0 j chosen low.1 low.2 low.4 (s_agrees (b.package_of p) low.0 low.3));
+          (offered_from h p j low.1 low.2 (unbarred p j low.1 low.2))
+          (agrees_after prefix p low.0 j chosen low.1 low.2 low.4 (s_agrees (package_of b p) low.0 low.3));
     }
 
-    closed_lower : (p i j : ℕ) → p < packages h → j < states h p → s (b.package_of p) i ≡ true → pr.standing (b.package_of p) i ≡ b.state_of p j → InClosure h (under h prefix) p j
+    closed_lower : (p i j : ℕ) → p < packages h → j < states h p → s (package_of b p) i ≡ true → pr.standing (package_of b p) i ≡ state_of b p j → InClosure h (under h prefix) p j
     closed_lower p i j known state here stands = record {
       family = lowered;
       stable = lowered_stable;
@@ -189,7 +196,7 @@ module _ (g : Graph) (pr : Pruning) (h : Graph) (b : Before) (r : IsReduction g 
     t_known : (p j : ℕ) → s p j ≡ true → (p < packages h) × (j < states h p)
     t_known p j here = offered_known h p j ((and_parts (is_offered h p j) (agrees prefix p j) (within.at p j here)).0)
 
-    t_inside : (p j : ℕ) → s p j ≡ true → left g pr (b.package_of p) (b.state_of p j) ≡ true
+    t_inside : (p j : ℕ) → s p j ≡ true → left g pr (package_of b p) (state_of b p j) ≡ true
     t_inside p j here = let k = t_known p j here in (r.reduced.states_sound p j k.0 k.1).inside
 
     some_at : (q : ℕ) → q < packages h → (j : ℕ) × (s q j ≡ true)
@@ -201,21 +208,21 @@ module _ (g : Graph) (pr : Pruning) (h : Graph) (b : Before) (r : IsReduction g 
 
     -- whether a state of s stands for the state i of p
     abbrev has_image : Family
-    has_image p i = some_below (λ q. eqb (b.package_of q) p && some_below (λ j. eqb (b.state_of q j) (pr.standing p i) && s q j) (states h q)) (packages h)
+    has_image p i = some_below (λ q. eqb (package_of b q) p && some_below (λ j. eqb (state_of b q j) (pr.standing p i) && s q j) (states h q)) (packages h)
 
-    image_from : (q j p i : ℕ) → s q j ≡ true → b.package_of q ≡ p → b.state_of q j ≡ pr.standing p i → has_image p i ≡ true
+    image_from : (q j p i : ℕ) → s q j ≡ true → package_of b q ≡ p → state_of b q j ≡ pr.standing p i → has_image p i ≡ true
     image_from q j p i here at stands =
         let k = t_known q j here in
-        some_from (λ x. eqb (b.package_of x) p && some_below (λ y. eqb (b.state_of x y) (pr.standing p i) && s x y) (states h x)) (packages h) q k.0
-        (and_from (eqb (b.package_of q) p) _ (eq-eqb _ _ at)
-        (some_from (λ y. eqb (b.state_of q y) (pr.standing p i) && s q y) (states h q) j k.1 (and_from (eqb (b.state_of q j) (pr.standing p i)) (s q j) (eq-eqb _ _ stands) here)))
+        some_from (λ x. eqb (package_of b x) p && some_below (λ y. eqb (state_of b x y) (pr.standing p i) && s x y) (states h x)) (packages h) q k.0
+        (and_from (eqb (package_of b q) p) _ (eq-eqb _ _ at)
+        (some_from (λ y. eqb (state_of b q y) (pr.standing p i) && s q y) (states h q) j k.1 (and_from (eqb (state_of b q j) (pr.standing p i)) (s q j) (eq-eqb _ _ stands) here)))
 
-    image_parts : (p i : ℕ) → has_image p i ≡ true → (q : ℕ) × (j : ℕ) × (s q j ≡ true) × (b.package_of q ≡ p) × (b.state_of q j ≡ pr.standing p i)
+    image_parts : (p i : ℕ) → has_image p i ≡ true → (q : ℕ) × (j : ℕ) × (s q j ≡ true) × (package_of b q ≡ p) × (state_of b q j ≡ pr.standing p i)
     image_parts p i there =
-        let first = some_parts (λ x. eqb (b.package_of x) p && some_below (λ y. eqb (b.state_of x y) (pr.standing p i) && s x y) (states h x)) (packages h) there in
-        let parts = and_parts (eqb (b.package_of first.0) p) _ first.2 in
-        let second = some_parts (λ y. eqb (b.state_of first.0 y) (pr.standing p i) && s first.0 y) (states h first.0) parts.1 in
-        let more = and_parts (eqb (b.state_of first.0 second.0) (pr.standing p i)) (s first.0 second.0) second.2 in
+        let first = some_parts (λ x. eqb (package_of b x) p && some_below (λ y. eqb (state_of b x y) (pr.standing p i) && s x y) (states h x)) (packages h) there in
+        let parts = and_parts (eqb (package_of b first.0) p) _ first.2 in
+        let second = some_parts (λ y. eqb (state_of b first.0 y) (pr.standing p i) && s first.0 y) (states h first.0) parts.1 in
+        let more = and_parts (eqb (state_of b first.0 second.0) (pr.standing p i)) (s first.0 second.0) second.2 in
         (first.0, second.0, more.1, eqb-true _ _ parts.0, eqb-true _ _ more.0)
 
     -- the states for which those of s stand, as the choices have them, and the absent states of what isn't kept
@@ -235,17 +242,17 @@ module _ (g : Graph) (pr : Pruning) (h : Graph) (b : Before) (r : IsReduction g 
           | inr image ↦ image
         ]
 
-    raised_from : (q j i : ℕ) → s q j ≡ true → left g pr (b.package_of q) i ≡ true → agrees (before b prefix) (b.package_of q) i ≡ true →
-        pr.standing (b.package_of q) i ≡ b.state_of q j → raised (b.package_of q) i ≡ true
+    raised_from : (q j i : ℕ) → s q j ≡ true → left g pr (package_of b q) i ≡ true → agrees (before b prefix) (package_of b q) i ≡ true →
+        pr.standing (package_of b q) i ≡ state_of b q j → raised (package_of b q) i ≡ true
     raised_from q j i here there agree stands =
-        and_from (left g pr (b.package_of q) i) _ there (and_from (agrees (before b prefix) (b.package_of q) i) _ agree
-        (or_right (not (pr.kept (b.package_of q))) (has_image (b.package_of q) i) (image_from q j (b.package_of q) i here refl (sym stands))))
+        and_from (left g pr (package_of b q) i) _ there (and_from (agrees (before b prefix) (package_of b q) i) _ agree
+        (or_right (not (pr.kept (package_of b q))) (has_image (package_of b q) i) (image_from q j (package_of b q) i here refl (sym stands))))
 
-    raised_itself : (q j : ℕ) → s q j ≡ true → raised (b.package_of q) (b.state_of q j) ≡ true
+    raised_itself : (q j : ℕ) → s q j ≡ true → raised (package_of b q) (state_of b q j) ≡ true
     raised_itself q j here =
         let k = t_known q j here in
         let agree = (and_parts (is_offered h q j) (agrees prefix q j) (within.at q j here)).1 in
-        raised_from q j (b.state_of q j) here (t_inside q j here) (agrees_before prefix q j chosen k.0 agree) (r.reduced.states_sound q j k.0 k.1).itself
+        raised_from q j (state_of b q j) here (t_inside q j here) (agrees_before prefix q j chosen k.0 agree) (r.reduced.states_sound q j k.0 k.1).itself
 
     raised_absent : (p : ℕ) → p < packages g → pr.kept p ≡ false → raised p (last g p) ≡ true
     raised_absent p known out =
@@ -264,31 +271,31 @@ module _ (g : Graph) (pr : Pruning) (h : Graph) (b : Before) (r : IsReduction g 
               ∙ r.plain.apart p q (raised_known p i here) known (λ same. apart (sym same))
         ]
 
-    meets_kept : (p i n : ℕ) → raised p i ≡ true → n < packages h → b.package_of n ≢ p →
-        (j : ℕ) × (raised (b.package_of n) j ≡ true) × (is_forbidden g p i (b.package_of n) j ≡ false)
+    meets_kept : (p i n : ℕ) → raised p i ≡ true → n < packages h → package_of b n ≢ p →
+        (j : ℕ) × (raised (package_of b n) j ≡ true) × (is_forbidden g p i (package_of b n) j ≡ false)
     meets_kept p i n here known apart =
         elim (cases_Bool (pr.kept p)) [
           | inl kept ↦
               let image = image_parts p i (raised_image p i here kept) in
-              let m = stable.meets image.0 image.1 n image.2 known (λ same. apart (ap b.package_of same ∙ image.3)) in
+              let m = stable.meets image.0 image.1 n image.2 known (λ same. apart (ap (package_of b) same ∙ image.3)) in
               let a = t_known image.0 image.1 image.2 in
               let c = t_known n m.partner m.there in (
-                b.state_of n m.partner,
+                state_of b n m.partner,
                 raised_itself n m.partner m.there,
-                (r.pruning.classes.stands p i (raised_left p i here)).same.alike (b.package_of n) (b.state_of n m.partner) apart (t_inside n m.partner m.there)
-                    ∙ ap (λ x. is_forbidden g p x (b.package_of n) (b.state_of n m.partner)) (sym image.4)
-                    ∙ ap (λ x. is_forbidden g x (b.state_of image.0 image.1) (b.package_of n) (b.state_of n m.partner)) (sym image.3)
-                    ∙ sym (r.reduced.forbidden image.0 image.1 n m.partner a.0 a.1 c.0 c.1 (λ same. apart (ap b.package_of (sym same) ∙ image.3)))
+                (r.pruning.classes.stands p i (raised_left p i here)).same.alike (package_of b n) (state_of b n m.partner) apart (t_inside n m.partner m.there)
+                    ∙ ap (λ x. is_forbidden g p x (package_of b n) (state_of b n m.partner)) (sym image.4)
+                    ∙ ap (λ x. is_forbidden g x (state_of b image.0 image.1) (package_of b n) (state_of b n m.partner)) (sym image.3)
+                    ∙ sym (r.reduced.forbidden image.0 image.1 n m.partner a.0 a.1 c.0 c.1 (λ same. apart (ap (package_of b) (sym same) ∙ image.3)))
                     ∙ m.allowed,
               )
           | inr away ↦
               let w = some_at n known in (
-                b.state_of n w.0,
+                state_of b n w.0,
                 raised_itself n w.0 w.1,
-                ap (λ x. is_forbidden g p x (b.package_of n) (b.state_of n w.0)) (left_absent g pr p i away (raised_left p i here))
-                    ∙ forbidden-flip g p (last g p) (b.package_of n) (b.state_of n w.0) (λ same. apart (sym same))
-                    ∙ no_need g pr r.graph r.plain r.pruning r.filled (b.package_of n) (b.state_of n w.0) p (r.reduced.sound n known)
-                    (left_closed g pr (b.package_of n) (b.state_of n w.0) (t_inside n w.0 w.1)) away (raised_known p i here) (λ same. apart (sym same)),
+                ap (λ x. is_forbidden g p x (package_of b n) (state_of b n w.0)) (left_absent g pr p i away (raised_left p i here))
+                    ∙ forbidden-flip g p (last g p) (package_of b n) (state_of b n w.0) (λ same. apart (sym same))
+                    ∙ no_need g pr r.graph r.plain r.pruning r.filled (package_of b n) (state_of b n w.0) p (r.reduced.sound n known)
+                    (left_closed g pr (package_of b n) (state_of b n w.0) (t_inside n w.0 w.1)) away (raised_known p i here) (λ same. apart (sym same)),
               )
         ]
 
@@ -315,8 +322,8 @@ module _ (g : Graph) (pr : Pruning) (h : Graph) (b : Before) (r : IsReduction g 
           (closed_offered g pr.closed p i r.pruning.closure (left_closed g pr p i (raised_left p i here))) (raised_agrees p i here);
     }
 
-    closed_upper : (q j i : ℕ) → s q j ≡ true → left g pr (b.package_of q) i ≡ true → agrees (before b prefix) (b.package_of q) i ≡ true →
-        pr.standing (b.package_of q) i ≡ b.state_of q j → InClosure g (under g (before b prefix)) (b.package_of q) i
+    closed_upper : (q j i : ℕ) → s q j ≡ true → left g pr (package_of b q) i ≡ true → agrees (before b prefix) (package_of b q) i ≡ true →
+        pr.standing (package_of b q) i ≡ state_of b q j → InClosure g (under g (before b prefix)) (package_of b q) i
     closed_upper q j i here there agree stands = record {
       family = raised;
       stable = raised_stable;
@@ -326,20 +333,20 @@ module _ (g : Graph) (pr : Pruning) (h : Graph) (b : Before) (r : IsReduction g 
 
   -- ---- closures
 
-  down : (prefix : List (ℕ × ℕ)) → AreKnown h prefix → (p i j : ℕ) → p < packages h → j < states h p → pr.standing (b.package_of p) i ≡ b.state_of p j →
-      InClosure g (under g (before b prefix)) (b.package_of p) i → InClosure h (under h prefix) p j
+  down : (prefix : List (ℕ × ℕ)) → AreKnown h prefix → (p i j : ℕ) → p < packages h → j < states h p → pr.standing (package_of b p) i ≡ state_of b p j →
+      InClosure g (under g (before b prefix)) (package_of b p) i → InClosure h (under h prefix) p j
   down prefix chosen p i j known state stands k = closed_lower prefix chosen k.family k.stable k.within p i j known state k.here stands
 
-  up : (prefix : List (ℕ × ℕ)) → AreKnown h prefix → (p i j : ℕ) → left g pr (b.package_of p) i ≡ true → agrees (before b prefix) (b.package_of p) i ≡ true →
-      pr.standing (b.package_of p) i ≡ b.state_of p j → InClosure h (under h prefix) p j → InClosure g (under g (before b prefix)) (b.package_of p) i
+  up : (prefix : List (ℕ × ℕ)) → AreKnown h prefix → (p i j : ℕ) → left g pr (package_of b p) i ≡ true → agrees (before b prefix) (package_of b p) i ≡ true →
+      pr.standing (package_of b p) i ≡ state_of b p j → InClosure h (under h prefix) p j → InClosure g (under g (before b prefix)) (package_of b p) i
   up prefix chosen p i j there agree stands k = closed_upper prefix chosen k.family k.stable k.within p j k.here p j i k.here there agree stands
 
   empty_before_pruning : (prefix : List (ℕ × ℕ)) → AreKnown h prefix → HasEmpty h (under h prefix) → HasEmpty g (under g (before b prefix))
   empty_before_pruning prefix chosen e = record {
-    place = b.package_of e.place;
+    place = package_of b e.place;
     known = home e.place e.known;
     none = λ i k.
-        let n = number e.place i e.known (left_closed g pr (b.package_of e.place) i (s_inside prefix chosen k.family k.stable k.within e.place i e.known k.here)) in
+        let n = number e.place i e.known (left_closed g pr (package_of b e.place) i (s_inside prefix chosen k.family k.stable k.within e.place i e.known k.here)) in
         e.none n.0 (down prefix chosen e.place i n.0 e.known n.1 (sym n.2) k);
   }
 
@@ -358,8 +365,8 @@ module _ (g : Graph) (pr : Pruning) (h : Graph) (b : Before) (r : IsReduction g 
               let parts = and_parts (is_offered h 0 j) (agrees prefix 0 j) (k.within.at 0 j k.here) in
               let state = (offered_known h 0 j parts.0).1 in
               let own = r.reduced.states_sound 0 j above state in
-              law g (under g (before b prefix)) e (b.package_of 0) (b.state_of 0 j)
-              (up prefix chosen 0 (b.state_of 0 j) j own.inside (agrees_before prefix 0 j chosen above parts.1) own.itself k);
+              law g (under g (before b prefix)) e (package_of b 0) (state_of b 0 j)
+              (up prefix chosen 0 (state_of b 0 j) j own.inside (agrees_before prefix 0 j chosen above parts.1) own.itself k);
         }
         | inr none ↦ absurd (never_empty prefix chosen none e)
       ]
@@ -374,36 +381,36 @@ module _ (g : Graph) (pr : Pruning) (h : Graph) (b : Before) (r : IsReduction g 
   -- ---- solutions
 
   module _ (law : SolutionIsClosed) where
-    solution_left : (xs : List ℕ) (p : ℕ) → IsSolution g xs → p < packages h → left g pr (b.package_of p) (get_or xs (b.package_of p) 0) ≡ true
+    solution_left : (xs : List ℕ) (p : ℕ) → IsSolution g xs → p < packages h → left g pr (package_of b p) (get_or xs (package_of b p) 0) ≡ true
     solution_left xs p s known =
-        inside p (get_or xs (b.package_of p) 0) known
-        (r.pruning.closure.whole (b.package_of p) (get_or xs (b.package_of p) 0) (law g [] xs s (λ q _. refl) (b.package_of p) (home p known)))
+        inside p (get_or xs (package_of b p) 0) known
+        (r.pruning.closure.whole (package_of b p) (get_or xs (package_of b p) 0) (law g [] xs s (λ q _. refl) (package_of b p) (home p known)))
 
     solution_cut : (xs ys : List ℕ) → IsSolution g xs → IsCutTo pr h b xs ys → IsSolution h ys
     solution_cut xs ys s c = record {
       each = c.each;
-      offered = λ p known. offered_from h p (get_or ys p 0) known (c.known p known) (r.reduced.offered p (get_or ys p 0) known (c.known p known));
+      offered = λ p known. offered_from h p (get_or ys p 0) known (c.known p known) (unbarred p (get_or ys p 0) known (c.known p known));
       allowed = λ p q first second apart.
-          let elsewhere : b.package_of p ≢ b.package_of q = λ e. apart (package_same p q first second e) in
+          let elsewhere : package_of b p ≢ package_of b q = λ e. apart (package_same p q first second e) in
           r.reduced.forbidden p (get_or ys p 0) q (get_or ys q 0) first (c.known p first) second (c.known q second) apart
-          ∙ ap (λ x. is_forbidden g (b.package_of p) x (b.package_of q) (b.state_of q (get_or ys q 0))) (c.stands p first)
-          ∙ ap (λ x. is_forbidden g (b.package_of p) (pr.standing (b.package_of p) (get_or xs (b.package_of p) 0)) (b.package_of q) x) (c.stands q second)
-          ∙ both_alike g (left g pr) pr.standing (b.package_of p) (get_or xs (b.package_of p) 0) (b.package_of q) (get_or xs (b.package_of q) 0) r.pruning.classes elsewhere
+          ∙ ap (λ x. is_forbidden g (package_of b p) x (package_of b q) (state_of b q (get_or ys q 0))) (c.stands p first)
+          ∙ ap (λ x. is_forbidden g (package_of b p) (pr.standing (package_of b p) (get_or xs (package_of b p) 0)) (package_of b q) x) (c.stands q second)
+          ∙ both_alike g (left g pr) pr.standing (package_of b p) (get_or xs (package_of b p) 0) (package_of b q) (get_or xs (package_of b q) 0) r.pruning.classes elsewhere
           (solution_left xs p s first) (solution_left xs q s second)
-          ∙ s.allowed (b.package_of p) (b.package_of q) (home p first) (home q second) elsewhere;
+          ∙ s.allowed (package_of b p) (package_of b q) (home p first) (home q second) elsewhere;
     }
 
     solution_cuts : (xs : List ℕ) → IsSolution g xs → (ys : List ℕ) × IsCutTo pr h b xs ys
     solution_cuts xs s =
-        let P : ℕ → ℕ → Type 0 = λ p y. (y < states h p) × (b.state_of p y ≡ pr.standing (b.package_of p) (get_or xs (b.package_of p) 0)) in
+        let P : ℕ → ℕ → Type 0 = λ p y. (y < states h p) × (state_of b p y ≡ pr.standing (package_of b p) (get_or xs (package_of b p) 0)) in
         let c = choose_below P (packages h) (λ p known.
-        let n = number p (get_or xs (b.package_of p) 0) known (left_closed g pr (b.package_of p) _ (solution_left xs p s known)) in
+        let n = number p (get_or xs (package_of b p) 0) known (left_closed g pr (package_of b p) _ (solution_left xs p s known)) in
         (n.0, (n.1, n.2))) in
         (c.0, record { each = c.1; known = λ p known. (c.2 p known).0; stands = λ p known. (c.2 p known).1 })
 
   module _ (ys xs : List ℕ) (s : IsSolution h ys) (w : IsWidenedTo g pr h b ys xs) where
     -- the number of a kept package, and its state
-    kept_state : (p : ℕ) → pr.kept p ≡ true → (n : ℕ) × (n < packages h) × (get_or ys n 0 < states h n) × (b.package_of n ≡ p) × (get_or xs p 0 ≡ b.state_of n (get_or ys n 0))
+    kept_state : (p : ℕ) → pr.kept p ≡ true → (n : ℕ) × (n < packages h) × (get_or ys n 0 < states h n) × (package_of b n ≡ p) × (get_or xs p 0 ≡ state_of b n (get_or ys n 0))
     kept_state p kept =
         let n = r.reduced.whole p kept in
         (n.0, n.1, (offered_known h n.0 (get_or ys n.0 0) (s.offered n.0 n.1)).1, n.2, ap (λ x. get_or xs x 0) (sym n.2) ∙ w.kept n.0 n.1)
@@ -413,61 +420,36 @@ module _ (g : Graph) (pr : Pruning) (h : Graph) (b : Before) (r : IsReduction g 
         elim (cases_Bool (pr.kept p)) [
           | inl kept ↦
               let n = kept_state p kept in
-              ap (left g pr p) n.4 ∙ ap (λ x. left g pr x (b.state_of n.0 (get_or ys n.0 0))) (sym n.3) ∙ (r.reduced.states_sound n.0 (get_or ys n.0 0) n.1 n.2).inside
+              ap (left g pr p) n.4 ∙ ap (λ x. left g pr x (state_of b n.0 (get_or ys n.0 0))) (sym n.3) ∙ (r.reduced.states_sound n.0 (get_or ys n.0 0) n.1 n.2).inside
           | inr out ↦ ap (left g pr p) (w.absent p known out) ∙ absent_left g pr r.graph r.plain r.pruning r.filled p known out
         ]
-
-    kept_absent : (p q : ℕ) → p < packages g → q < packages g → p ≢ q → pr.kept p ≡ true → pr.kept q ≡ false → is_forbidden g p (get_or xs p 0) q (get_or xs q 0) ≡ false
-    kept_absent p q first second apart kept out =
-        ap (is_forbidden g p (get_or xs p 0) q) (w.absent q second out)
-        ∙ no_need g pr r.graph r.plain r.pruning r.filled p (get_or xs p 0) q kept (left_closed g pr p _ (widened_left p first)) out second (λ e. apart (sym e))
 
     both_kept : (p q : ℕ) → p ≢ q → pr.kept p ≡ true → pr.kept q ≡ true → is_forbidden g p (get_or xs p 0) q (get_or xs q 0) ≡ false
     both_kept p q apart one two =
         let n = kept_state p one in
         let m = kept_state q two in
-        let elsewhere : n.0 ≢ m.0 = λ e. apart (sym n.3 ∙ ap b.package_of e ∙ m.3) in
+        let elsewhere : n.0 ≢ m.0 = λ e. apart (sym n.3 ∙ ap (package_of b) e ∙ m.3) in
         ap (λ x. is_forbidden g p x q (get_or xs q 0)) n.4
-        ∙ ap (is_forbidden g p (b.state_of n.0 (get_or ys n.0 0)) q) m.4
-        ∙ ap (λ x. is_forbidden g x (b.state_of n.0 (get_or ys n.0 0)) q (b.state_of m.0 (get_or ys m.0 0))) (sym n.3)
-        ∙ ap (λ x. is_forbidden g (b.package_of n.0) (b.state_of n.0 (get_or ys n.0 0)) x (b.state_of m.0 (get_or ys m.0 0))) (sym m.3)
+        ∙ ap (is_forbidden g p (state_of b n.0 (get_or ys n.0 0)) q) m.4
+        ∙ ap (λ x. is_forbidden g x (state_of b n.0 (get_or ys n.0 0)) q (state_of b m.0 (get_or ys m.0 0))) (sym n.3)
+        ∙ ap (λ x. is_forbidden g (package_of b n.0) (state_of b n.0 (get_or ys n.0 0)) x (state_of b m.0 (get_or ys m.0 0))) (sym m.3)
         ∙ sym (r.reduced.forbidden n.0 (get_or ys n.0 0) m.0 (get_or ys m.0 0) n.1 n.2 m.1 m.2 elsewhere)
         ∙ s.allowed n.0 m.0 n.1 m.1 elsewhere
 
-    widened_allowed : (p q : ℕ) → p < packages g → q < packages g → p ≢ q → is_forbidden g p (get_or xs p 0) q (get_or xs q 0) ≡ false
-    widened_allowed p q first second apart =
-        elim (cases_Bool (pr.kept p)) [
-          | inl one ↦ elim (cases_Bool (pr.kept q)) [
-            | inl two ↦ both_kept p q apart one two
-            | inr out ↦ kept_absent p q first second apart one out
-          ]
-          | inr away ↦ elim (cases_Bool (pr.kept q)) [
-            | inl two ↦ forbidden-flip g p (get_or xs p 0) q (get_or xs q 0) apart ∙ kept_absent q p second first (λ e. apart (sym e)) two away
-            | inr out ↦
-                ap (λ x. is_forbidden g p x q (get_or xs q 0)) (w.absent p first away)
-                ∙ ap (is_forbidden g p (last g p) q) (w.absent q second out)
-                ∙ r.plain.apart p q first second apart
-          ]
-        ]
-
     solution_widened : IsSolution g xs
-    solution_widened = record {
-      each = w.each;
-      offered = λ p known. closed_offered g pr.closed p (get_or xs p 0) r.pruning.closure (left_closed g pr p _ (widened_left p known));
-      allowed = widened_allowed;
-    }
+    solution_widened = left_solves g pr r.graph r.plain r.pruning r.filled xs widened_left (λ p q _ _ apart one two. both_kept p q apart one two) w.each
 
   -- the state of a package in a widened solution
   abbrev IsWide : List ℕ → ℕ → ℕ → Type 0
-  IsWide ys p x = ((n : ℕ) → n < packages h → b.package_of n ≡ p → x ≡ b.state_of n (get_or ys n 0)) × (pr.kept p ≡ false → x ≡ last g p)
+  IsWide ys p x = ((n : ℕ) → n < packages h → package_of b n ≡ p → x ≡ state_of b n (get_or ys n 0)) × (pr.kept p ≡ false → x ≡ last g p)
 
   wide_state : (ys : List ℕ) (p : ℕ) → (x : ℕ) × IsWide ys p x
   wide_state ys p =
       elim (cases_Bool (pr.kept p)) [
         | inl kept ↦
             let n = r.reduced.whole p kept in (
-              b.state_of n.0 (get_or ys n.0 0),
-              (λ m known e. ap (λ k. b.state_of k (get_or ys k 0)) (package_same n.0 m n.1 known (n.2 ∙ sym e)), λ out. absurd (both_ways _ out kept)),
+              state_of b n.0 (get_or ys n.0 0),
+              (λ m known e. ap (λ k. state_of b k (get_or ys k 0)) (package_same n.0 m n.1 known (n.2 ∙ sym e)), λ out. absurd (both_ways _ out kept)),
             )
         | inr out ↦ (
           last g p,
@@ -478,7 +460,7 @@ module _ (g : Graph) (pr : Pruning) (h : Graph) (b : Before) (r : IsReduction g 
   solution_widens : (ys : List ℕ) → IsSolution h ys → (xs : List ℕ) × IsWidenedTo g pr h b ys xs
   solution_widens ys s =
       let c = choose_below (IsWide ys) (packages g) (λ p known. wide_state ys p) in
-      (c.0, record { each = c.1; kept = λ p known. (c.2 (b.package_of p) (home p known)).0 p known refl; absent = λ p known out. (c.2 p known).1 out })
+      (c.0, record { each = c.1; kept = λ p known. (c.2 (package_of b p) (home p known)).0 p known refl; absent = λ p known out. (c.2 p known).1 out })
 
   pub solutions_correspond : SolutionIsClosed → SolutionsCorrespond g pr h b
   solutions_correspond law = record {

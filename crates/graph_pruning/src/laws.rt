@@ -1,5 +1,6 @@
 //! Laws of pruning, each a call that does nothing and says the law.
 ghost use Rattle.graph_pruning.specs.Pruned.{OnePruning};
+ghost use Rattle.graph_pruning.specs.Exchange.{UnkeptCanBeAbsent, EqualStatesExchange};
 ghost use Rattle.graph_pruning.specs.Reduced.{PruningKeepsClosures, PruningKeepsSolutions};
 
 use version_graph::{empty_is_everywhere, solution_is_closed};
@@ -21,6 +22,21 @@ pub fn pruning_keeps_closures()
 /// instance, and each solution of the pruned instance, with all other packages absent, solves the instance.
 pub fn pruning_keeps_solutions()
     ensures { PruningKeepsSolutions }
+{
+    solution_is_closed();
+}
+
+/// Where there is a solution, there is one in which each package that isn't kept is absent.
+pub fn unkept_can_be_absent()
+    ensures { UnkeptCanBeAbsent }
+{
+    solution_is_closed();
+}
+
+/// A solution in which what isn't kept is absent stays one where a kept package's state is exchanged for an equal
+/// one.
+pub fn equal_states_exchange()
+    ensures { EqualStatesExchange }
 {
     solution_is_closed();
 }
