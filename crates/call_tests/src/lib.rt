@@ -11,6 +11,8 @@ mod graph_calls;
 #[cfg(test)]
 mod jl_versions_calls;
 #[cfg(test)]
+mod lex_weights_calls;
+#[cfg(test)]
 mod manifest_calls;
 #[cfg(test)]
 mod pkg_world_calls;
