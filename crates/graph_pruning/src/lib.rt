@@ -9,8 +9,6 @@ mod laws;
 mod pruning;
 mod reaching;
 mod reducing;
-#[cfg(test)]
-mod tests;
 
 pub use closing::{Closed, close, undo_to};
 pub use cutting::{cross_off, cut_to};

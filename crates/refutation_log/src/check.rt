@@ -23,6 +23,3 @@ pub fn refutes(instance: &Instance, log: &Log, scratch: &mut RefuteScratch) -> b
     refutation_is_sound();
     scratch.accepts(instance, log.items())
 }
-
-#[cfg(test)]
-mod tests;

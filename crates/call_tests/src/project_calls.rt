@@ -1,7 +1,7 @@
-//! What no clause says: that the calls succeed, and examples of their answers.
-use super::*;
+//! Project files that are read and written again, with what no command prints of them.
 use jl_versions::Version;
-use pkg_world::{Duplicate, Name, NameIds, Text};
+use pkg_world::{Duplicate, Name, NameIds};
+use project_file::{Project, Source, SpecText};
 use std::test::Fail;
 use toml_view::print_table;
 
@@ -163,112 +163,4 @@ fn a_compatibility_text_keeps_its_bytes(rt: HostRuntime) -> Result<(), Fail> {
     assert!(rt; copy.spec().holds(&version));
     assert!(rt; SpecText::read(rt.alloc(), "1,").is_err());
     Ok(())
-}
-
-fn refusal(answer: Result<Project, ProjectFault>) -> (&'static str, Option<Text>, u64) {
-    match answer {
-        Ok(_) => ("read", None, 0),
-        Err(ProjectFault::BadToml) => ("toml", None, 0),
-        Err(ProjectFault::Deep) => ("deep", None, 0),
-        Err(ProjectFault::BadShape(path)) => ("shape", Some(path), 0),
-        Err(ProjectFault::BadVersion(path, place)) => ("version", Some(path), place),
-        Err(ProjectFault::BadSpec(path, place)) => ("spec", Some(path), place),
-        Err(ProjectFault::Memory) => ("memory", None, 0),
-    }
-}
-
-/// Files with one refusal, its kind, its path and its place.
-const REFUSED: [(&str, &str, &str, u64); 26] = [
-    ("name = ", "toml", "", 0),
-    (
-        "k = [[[[[[[[[[[[[[[[[[[[[[[[[[[[[[[[[[[[[[[[[[[[[[[[[[[[[[[[[[[[[[[[]]]]]]]]]]]]]]]]]]]]]]]]]]]]]]]]]]]]]]]]]]]]]]]]]]]]]]]]]]]]]]]]",
-        "deep",
-        "",
-        0,
-    ),
-    ("name = 5", "shape", "name", 0),
-    ("uuid = 5", "shape", "uuid", 0),
-    ("uuid = \"no\"", "shape", "uuid", 0),
-    ("version = 1.2", "shape", "version", 0),
-    ("version = \"1.x\"", "version", "version", 2),
-    ("manifest = []", "shape", "manifest", 0),
-    ("deps = 5", "shape", "deps", 0),
-    ("[deps]\nA = \"no\"", "shape", "deps.A", 0),
-    ("weakdeps = 5", "shape", "weakdeps", 0),
-    ("[weakdeps]\nA = 1", "shape", "weakdeps.A", 0),
-    ("extras = 5", "shape", "extras", 0),
-    ("[extras]\n\"\" = 1", "shape", "extras.", 0),
-    ("extensions = 5", "shape", "extensions", 0),
-    ("[extensions]\nE = 5", "shape", "extensions.E", 0),
-    ("[extensions]\nE = [\"A\", 5]", "shape", "extensions.E", 0),
-    ("compat = \"1\"", "shape", "compat", 0),
-    ("[compat]\nA = 1", "shape", "compat.A", 0),
-    ("[compat]\nA = \"1.x\"", "spec", "compat.A", 2),
-    ("sources = 5", "shape", "sources", 0),
-    ("[sources]\nA = \"p\"", "shape", "sources.A", 0),
-    ("[sources.A]\npath = 1", "shape", "sources.A.path", 0),
-    (
-        "[sources.A]\npath = \"p\"\nurl = 1",
-        "shape",
-        "sources.A.url",
-        0,
-    ),
-    (
-        "[sources.A]\npath = \"p\"\nrev = 1",
-        "shape",
-        "sources.A.rev",
-        0,
-    ),
-    (
-        "[sources.A]\nurl = \"u\"\nsubdir = 1",
-        "shape",
-        "sources.A.subdir",
-        0,
-    ),
-];
-
-/// Files with two refusals, and the path of the one that comes first by the bytes of the keys.
-const FIRST: [(&str, &str, &str, u64); 6] = [
-    (
-        "name = 5\n[compat]\nB = \"x\"\nA = 1",
-        "shape",
-        "compat.A",
-        0,
-    ),
-    ("version = \"x\"\nuuid = 5", "shape", "uuid", 0),
-    ("weakdeps = 5\nversion = \"x\"", "version", "version", 0),
-    (
-        "[extras]\nA = 1\n[extensions]\nZ = 1",
-        "shape",
-        "extensions.Z",
-        0,
-    ),
-    ("[sources.A]\nurl = 1\nrev = 2", "shape", "sources.A.rev", 0),
-    ("[sources.A]\nrev = 1\nsubdir = 2", "shape", "sources.A", 0),
-];
-
-#[test]
-fn each_key_is_refused_at_its_path(rt: HostRuntime) {
-    for (text, kind, path, place) in REFUSED {
-        let (found, at, number) = refusal(Project::read(rt.alloc(), text.as_bytes()));
-        assert_eq!(rt; found, kind, "{text}");
-        assert_eq!(rt; number, place, "{text}");
-        match at {
-            Some(at) => assert_eq!(rt; at.as_str(), path, "{text}"),
-            None => assert_eq!(rt; path, "", "{text}"),
-        }
-    }
-}
-
-#[test]
-fn of_two_refusals_the_first_in_key_order_answers(rt: HostRuntime) {
-    for (text, kind, path, place) in FIRST {
-        let (found, at, number) = refusal(Project::read(rt.alloc(), text.as_bytes()));
-        assert_eq!(rt; found, kind, "{text}");
-        assert_eq!(rt; number, place, "{text}");
-        match at {
-            Some(at) => assert_eq!(rt; at.as_str(), path, "{text}"),
-            None => assert!(rt; false, "{text}"),
-        }
-    }
 }

@@ -1,8 +1,11 @@
-//! Examples of the place that the texts of an environment give.
-use crate::{PlaceFault, Status, place_from};
-use pkg_world::{Place, Text};
+//! The place that the texts of an environment give, and the entry file that a project's environment has.
+use crate::stores::{File, at, filled};
+use env_maps::{Context, Id, ProjectEnv};
+use pkg_top::{PlaceFault, Status, place_from};
+use pkg_world::{MemStore, Name, NormPath, Place, Text};
 use std::alloc::{AllocError, Global};
 use std::test::Fail;
+use uuid::Uuid;
 
 /// The texts of an environment: the current folder, the home folder, the depots, the standard libraries and Julia.
 type Texts = (
@@ -98,5 +101,56 @@ fn texts_give_a_place_or_their_refusal(rt: HostRuntime) -> Result<(), Fail> {
         assert_eq!(rt; told.as_str(), want);
     }
     assert_eq!(rt; Status::Memory.code(), 15);
+    Ok(())
+}
+
+/// A named environment that needs a standard library, and the folder of the standard libraries.
+const LIBRARY: &[File] = &[
+    (
+        "/d/environments/v1.11/Project.toml",
+        "[deps]\nDates = \"00000000-0000-4000-8000-000000000030\"\n",
+    ),
+    (
+        "/d/environments/v1.11/Manifest.toml",
+        "manifest_format = \"2.0\"\n[[deps.Dates]]\nuuid = \"00000000-0000-4000-8000-000000000030\"\n",
+    ),
+    (
+        "/s/Dates/Project.toml",
+        "name = \"Dates\"\nuuid = \"00000000-0000-4000-8000-000000000030\"\n",
+    ),
+    ("/s/Dates/src/Dates.jl", ""),
+];
+
+/// The identity of Dates.
+fn dates(alloc: Global) -> Result<Id, Fail> {
+    Ok(Id {
+        uuid: Some(Uuid::parse_str("00000000-0000-4000-8000-000000000030")?),
+        name: Name::of(alloc, "Dates")?,
+    })
+}
+
+/// The named environment.
+fn named_env(alloc: Global, store: &mut MemStore) -> Result<ProjectEnv, Fail> {
+    let place = place_from(alloc, "/p", None, Some("/d"), None, None, Some("/s"), None)?;
+    let file = at(alloc, "/d/environments/v1.11/Project.toml")?;
+    Ok(ProjectEnv::load(alloc, store, &place, &file)?)
+}
+
+/// An entry path as text.
+fn entry_text(alloc: Global, entry: &Option<NormPath>) -> Result<String, AllocError> {
+    match entry {
+        Some(path) => String::from_str(alloc, path.as_str()),
+        None => String::from_str(alloc, "none"),
+    }
+}
+
+#[test]
+fn a_standard_library_has_its_entry(rt: HostRuntime) -> Result<(), Fail> {
+    let alloc = rt.alloc();
+    let mut store = filled(alloc, LIBRARY)?;
+    let env = named_env(alloc, &mut store)?;
+    let entry = env.entry(alloc, &mut store, &Context::Top, &dates(alloc)?)?;
+    let text = entry_text(alloc, &entry)?;
+    assert_eq!(rt; text.as_str(), "/s/Dates/src/Dates.jl");
     Ok(())
 }

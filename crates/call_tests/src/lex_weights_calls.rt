@@ -1,5 +1,5 @@
 //! What weights of three levels add up to, how they compare, and what they are clipped to.
-use crate::{Level, Lex, Lex3, Weight};
+use lex_weights::{Level, Lex, Lex3, Weight};
 use std::test::Fail;
 
 const LIMIT: i64 = 1 << 40;

@@ -1,13 +1,14 @@
-//! What no clause says: that reading succeeds, and examples of its answers.
+//! Manifests that are read and written again, with what no command prints of them.
 ghost use Rattle.std.specs.Prelude.{IfOk, IsTrue};
 ghost use Rattle.manifest_file.specs.Said.{said};
 ghost use Rattle.manifest_file.specs.Written.{are_by_name};
 
-use super::*;
 use jl_versions::Version;
+use manifest_file::{Manifest, Origin, Stanza};
 use pkg_world::{Duplicate, ExtList, Listed, Name, NameIds};
 use std::alloc::{AllocError, Global};
 use std::test::Fail;
+use toml::ser::table_to_string;
 use uuid::Uuid;
 
 /// A manifest as Pkg writes it, with a stanza of every kind.
@@ -22,11 +23,6 @@ const FULL: &str = "julia_version = \"1.11.2\"\nmanifest_format = \"2.0\"\nproje
     [[deps.Work]]\ndeps = [\"Printf\", \"Lib\", \"Printf\"]\ngit-tree-sha1 = \"00000000000000000000000000000000000000FF\"\n\
     repo-rev = \"main\"\nrepo-subdir = \"sub\"\nrepo-url = \"https://example.org/W.git\"\n\
     uuid = \"00000000-0000-4000-8000-000000000004\"\nversion = \"0.3.0\"\n";
-
-/// Two stanzas of one name, whose dependencies are tables.
-const TWICE: &str = "manifest_format = \"2\"\n\
-    [[deps.A]]\nuuid = \"00000000-0000-4000-8000-000000000001\"\n[deps.A.deps]\nB = \"00000000-0000-4000-8000-000000000003\"\n\
-    [[deps.A]]\nuuid = \"00000000-0000-4000-8000-000000000002\"\n[deps.A.deps]\nA = \"00000000-0000-4000-8000-000000000001\"\n";
 
 fn kind(origin: &Origin) -> &'static str {
     match origin {
@@ -155,129 +151,11 @@ fn weak(alloc: Global) -> Result<NameIds, AllocError> {
 #[test]
 fn what_is_written_is_read_again(rt: HostRuntime) -> Result<(), Fail> {
     let manifest = lone(rt.alloc())?;
-    let table = manifest.to_table(rt.alloc())?;
-    let again = crate::manifest::of_table(rt.alloc(), &table)?;
-    assert_eq!(rt; again.stanzas.items().len(), 1);
+    let text = table_to_string(rt.alloc(), &manifest.to_table(rt.alloc())?)?;
+    let again = Manifest::read(rt.alloc(), text.as_bytes())?;
     assert_eq!(rt;
         shown_all(rt.alloc(), &again)?.as_str(),
         "A 200 path true true 0 , Q200 \n"
     );
-    Ok(())
-}
-
-#[test]
-fn stanzas_of_one_name_stand_as_in_the_file(rt: HostRuntime) -> Result<(), Fail> {
-    let manifest = Manifest::read(rt.alloc(), TWICE.as_bytes())?;
-    let stanzas = manifest.stanzas.items();
-    assert_eq!(rt; stanzas.len(), 2);
-    assert_eq!(rt; stanzas[0].uuid.as_bytes()[15], 1);
-    assert_eq!(rt; shown(rt.alloc(), &stanzas[0].deps)?.as_str(), "B3 ");
-    assert_eq!(rt; shown(rt.alloc(), &stanzas[1].deps)?.as_str(), "A1 ");
-    Ok(())
-}
-
-#[test]
-fn a_file_without_keys_is_an_empty_manifest(rt: HostRuntime) -> Result<(), Fail> {
-    for text in ["", "# nothing\n", "manifest_format = \"2.11\"\n"] {
-        let manifest = Manifest::read(rt.alloc(), text.as_bytes())?;
-        assert_eq!(rt; manifest.stanzas.items().len(), 0);
-    }
-    Ok(())
-}
-
-/// The refusal as one text.
-fn refusal(alloc: Global, text: &str) -> Result<String, AllocError> {
-    match Manifest::read(alloc, text.as_bytes()) {
-        Ok(_) => String::from_str(alloc, "read"),
-        Err(fault) => told(alloc, &fault),
-    }
-}
-
-fn told(alloc: Global, fault: &ManifestFault) -> Result<String, AllocError> {
-    match fault {
-        ManifestFault::BadToml => String::from_str(alloc, "BadToml"),
-        ManifestFault::Deep => String::from_str(alloc, "Deep"),
-        ManifestFault::BadShape(path) => format!(in alloc; "BadShape {path}"),
-        ManifestFault::BadVersion(path, place) => format!(in alloc; "BadVersion {path} {place}"),
-        ManifestFault::SameUuid(id) => {
-            let last = id.as_bytes()[15];
-            format!(in alloc; "SameUuid {last}")
-        }
-        ManifestFault::Dangling(from, name) => format!(in alloc; "Dangling {from} {name}"),
-        ManifestFault::Unclear(from, name) => format!(in alloc; "Unclear {from} {name}"),
-        ManifestFault::Memory => String::from_str(alloc, "Memory"),
-    }
-}
-
-/// Files that are refused, with the refusal.
-const REFUSED: [(&str, &str); 19] = [
-    ("[[deps.A", "BadToml"),
-    (
-        "a = [[[[[[[[[[[[[[[[[[[[[[[[[[[[[[[[[[[[[[[[[[[[[[[[[[[[[[[[[[[[[[[[]]]]]]]]]]]]]]]]]]]]]]]]]]]]]]]]]]]]]]]]]]]]]]]]]]]]]]]]]]]]]]]]",
-        "Deep",
-    ),
-    ("x = 1", "BadShape manifest_format"),
-    ("manifest_format = \"2.\"", "BadShape manifest_format"),
-    ("manifest_format = 2.0", "BadShape manifest_format"),
-    ("manifest_format = 1\ndeps = 1", "BadShape deps"),
-    (
-        "manifest_format = \"2.0\"\njulia_version = \"1.x\"",
-        "BadVersion julia_version 2",
-    ),
-    (
-        "manifest_format = \"2.0\"\n[[deps.A]]\nversion = \"1\"",
-        "BadShape deps.A.uuid",
-    ),
-    (
-        "manifest_format = \"2.0\"\n[[deps.A]]\nuuid = \"00000000-0000-4000-8000-000000000001\"\nversion = \"1.2.\"",
-        "BadVersion deps.A.version 4",
-    ),
-    (
-        "manifest_format = \"2.0\"\n[[deps.A]]\nuuid = \"00000000-0000-4000-8000-000000000001\"\nrepo-url = \"u\"",
-        "BadShape deps.A.git-tree-sha1",
-    ),
-    (
-        "manifest_format = \"2.0\"\n[[deps.A]]\nuuid = \"00000000-0000-4000-8000-000000000001\"\ngit-tree-sha1 = \"12\"",
-        "BadShape deps.A.git-tree-sha1",
-    ),
-    (
-        "manifest_format = \"2.0\"\n[[deps.A]]\nuuid = \"00000000-0000-4000-8000-000000000001\"\npath = \"p\"\nrepo-rev = 1",
-        "BadShape deps.A.repo-rev",
-    ),
-    (
-        "manifest_format = \"2.0\"\n[[deps.A]]\nuuid = \"00000000-0000-4000-8000-000000000001\"\npinned = \"yes\"",
-        "BadShape deps.A.pinned",
-    ),
-    (
-        "manifest_format = \"2.0\"\n[[deps.A]]\nuuid = \"00000000-0000-4000-8000-000000000001\"\n[deps.A.extensions]\nE = 1",
-        "BadShape deps.A.extensions.E",
-    ),
-    (
-        "manifest_format = \"2.0\"\n[[deps.A]]\nuuid = \"00000000-0000-4000-8000-000000000001\"\n[[deps.B]]\nuuid = \"00000000-0000-4000-8000-000000000001\"\n",
-        "SameUuid 1",
-    ),
-    (
-        "manifest_format = \"2.0\"\n[[deps.A]]\ndeps = [\"Q\"]\nuuid = \"00000000-0000-4000-8000-000000000001\"\n[[deps.B]]\nuuid = \"00000000-0000-4000-8000-000000000001\"\n",
-        "SameUuid 1",
-    ),
-    (
-        "manifest_format = \"2.0\"\n[[deps.A]]\nuuid = \"00000000-0000-4000-8000-000000000001\"\ndeps = [\"Q\"]",
-        "Dangling A Q",
-    ),
-    (
-        "manifest_format = \"2.0\"\n[[deps.A]]\ndeps = [\"Q\"]\nuuid = \"00000000-0000-4000-8000-000000000003\"\n[[deps.Q]]\nuuid = \"00000000-0000-4000-8000-000000000001\"\n[[deps.Q]]\nuuid = \"00000000-0000-4000-8000-000000000002\"\n",
-        "Unclear A Q",
-    ),
-    (
-        "manifest_format = \"2.0\"\n[[deps.A]]\nuuid = \"00000000-0000-4000-8000-000000000001\"\nweakdeps = [\"R\"]\ndeps = [\"Q\"]",
-        "Dangling A Q",
-    ),
-];
-
-#[test]
-fn each_refusal_names_its_place(rt: HostRuntime) -> Result<(), Fail> {
-    for (text, want) in REFUSED {
-        assert_eq!(rt; refusal(rt.alloc(), text)?.as_str(), want);
-    }
     Ok(())
 }
