@@ -2,7 +2,7 @@
 ghost use Rattle.std.specs.Prelude.{◌≡◌, ◌<◌, ◌↔◌, ◌≢◌, ℕ, false, IsTrue, length, slice_index};
 ghost use Rattle.version_graph.specs.Graph.{packages, last, is_forbidden, IsPlain};
 
-use crate::{Log, Node, NodeKind, RefuteScratch, more_choices_refute, refutes};
+use crate::{Log, Node, NodeKind, RefuteScratch, refutes};
 use std::alloc::Global;
 use std::test::Fail;
 use version_graph::{GraphFault, Instance, InstanceBuilder};
@@ -123,7 +123,6 @@ fn ring(alloc: Global) -> Result<Instance, GraphFault> {
 
 #[test]
 fn two_that_refuse_each_other_are_refuted_by_a_leaf(rt: HostRuntime) -> Result<(), Fail> {
-    more_choices_refute();
     let world = two_that_refuse(rt.alloc())?;
     let cases: [(&[Node], bool); 5] = [
         (&[leaf(None)], true),
