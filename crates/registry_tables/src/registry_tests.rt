@@ -173,10 +173,14 @@ fn loaded<S: Store>(alloc: Global, store: &mut S, folder: &NormPath) -> Result<S
 }
 
 /// The text of a registry's file, and the packages that are read or the refusal.
-const READ: [(&str, &str); 18] = [
+const READ: [(&str, &str); 19] = [
+    (
+        "name = \"R\"\nuuid = \"11111111-1111-1111-1111-111111111111\"\n[packages]\n",
+        "R",
+    ),
     (
         "name = \"R\"\nuuid = \"11111111-1111-1111-1111-111111111111\"",
-        "R",
+        "BadShape packages",
     ),
     (
         "name = \"R\"\nuuid = \"11111111111111111111111111111111\"\nrepo = 5\n[packages]\n\
@@ -187,8 +191,8 @@ const READ: [(&str, &str); 18] = [
     ("name = ", "BadToml"),
     ("uuid = \"no\"\npackages = 1", "BadShape name"),
     ("name = 1\npackages = 1", "BadShape name"),
-    ("name = \"R\"", "BadShape uuid"),
-    ("name = \"R\"\nuuid = \"no\"", "BadShape uuid"),
+    ("name = \"R\"", "BadShape packages"),
+    ("name = \"R\"\nuuid = \"no\"\n[packages]", "BadShape uuid"),
     ("name = \"R\"\npackages = 1", "BadShape packages"),
     ("name = \"R\"\npackages.key = 1", "BadShape packages.key"),
     (
