@@ -15,11 +15,13 @@ reduce-requires-clause-filled c =
 pub returns : goal.returns
 returns c =
     let p = c.requires.pruned in
-    let g = c.args.instance.now in
-    (p.closed, record {
-      graph = c.packages-packages.ensures.sound;
-      plain = c.requires.plain;
-      pruning = p.pruning;
-      filled = pruned_filled g p.closed c.args.self.now.is_open c.requires.filled p.filled;
-      reduced = reduced_where g (has c.args.domains.now) _ _ _ _ _ p.domains c.in_ok-reduced.ensures;
-    })
+    let g = c.args.instance.now in (
+      p.closed,
+      record {
+        graph = c.packages-packages.ensures.sound;
+        plain = c.requires.plain;
+        pruning = p.pruning;
+        filled = pruned_filled g p.closed c.args.self.now.is_open c.requires.filled p.filled;
+        reduced = reduced_where g (has c.args.domains.now) _ _ _ _ _ p.domains c.in_ok-reduced.ensures;
+      },
+    )
