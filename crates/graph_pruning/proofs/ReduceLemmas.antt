@@ -43,10 +43,10 @@ choose_below P (suc n) f =
     )
 
 module _ (g : Graph) (pr : Pruning) (h : Graph) (b : Part) (r : IsReduction g pr h b) where
-  home : (p : ℕ) → p < packages h → package_of b p < packages g
+  pub home : (p : ℕ) → p < packages h → package_of b p < packages g
   home p known = kept_known g pr r.graph r.plain r.pruning r.filled (package_of b p) (r.reduced.sound p known)
 
-  package_same : (p q : ℕ) → p < packages h → q < packages h → package_of b p ≡ package_of b q → p ≡ q
+  pub package_same : (p q : ℕ) → p < packages h → q < packages h → package_of b p ≡ package_of b q → p ≡ q
   package_same p q first second e =
       elim (cases_order p q) [
         | inl same ↦ same
@@ -71,7 +71,7 @@ module _ (g : Graph) (pr : Pruning) (h : Graph) (b : Part) (r : IsReduction g pr
   inside p i known here = left_kept g pr (package_of b p) i (r.reduced.sound p known) here
 
   -- the number of the state that stands for a closed one
-  number : (p i : ℕ) → p < packages h → pr.closed (package_of b p) i ≡ true → (n : ℕ) × (n < states h p) × (state_of b p n ≡ pr.standing (package_of b p) i)
+  pub number : (p i : ℕ) → p < packages h → pr.closed (package_of b p) i ≡ true → (n : ℕ) × (n < states h p) × (state_of b p n ≡ pr.standing (package_of b p) i)
   number p i known here =
       r.reduced.states_whole p (pr.standing (package_of b p) i) known
       (standing_itself g (left g pr) pr.standing (package_of b p) i r.pruning.classes (inside p i known here))

@@ -2,7 +2,7 @@ use Rattle.std.proofs.Common.{arith}
 use Rattle.version_graph.proofs.FamilyLemmas.{nowhere}
 use Rattle.version_graph.proofs.TrailLemmas.{offered_known, held_offered}
 use Rattle.refutation_log.proofs.Holding.{settled_shut}
-use Rattle.refutation_log.proofs.scratch.RefuteScratch.covers.Goals as goal
+use Rattle.refutation_log.proofs.board.Board.covers.Goals as goal
 
 pub returns-then-not-is_open : goal.returns-then-not-is_open
 returns-then-not-is_open c = λ i k.
