@@ -19,6 +19,10 @@ pub record Meets (g : Graph) (f : Family) (p i q : ℕ) : Type 0 where
   pub there : f q partner ≡ true
   pub allowed : is_forbidden g p i q partner ≡ false
 
+-- the states i and j of p are allowed with the same states of q's domain
+pub record AreAlike (g : Graph) (f : Family) (p i j q : ℕ) : Type 0 where
+  pub alike : (k : ℕ) → f q k ≡ true → is_forbidden g p i q k ≡ is_forbidden g p j q k
+
 -- each state has an allowed partner in every other package's domain
 pub record IsStable (g : Graph) (f : Family) : Type 0 where
   pub meets : (p i q : ℕ) → f p i ≡ true → q < packages g → q ≢ p → Meets g f p i q
