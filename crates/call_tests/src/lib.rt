@@ -7,11 +7,23 @@ mod compat_spec_calls;
 #[cfg(test)]
 mod depot_hash_calls;
 #[cfg(test)]
+mod graph_calls;
+#[cfg(test)]
 mod jl_versions_calls;
+#[cfg(test)]
+mod lex_weights_calls;
+#[cfg(test)]
+mod manifest_calls;
 #[cfg(test)]
 mod pkg_world_calls;
 #[cfg(test)]
+mod place_calls;
+#[cfg(test)]
+mod project_calls;
+#[cfg(test)]
 mod reading_once;
+#[cfg(test)]
+mod registry_calls;
 #[cfg(test)]
 mod stores;
 #[cfg(test)]

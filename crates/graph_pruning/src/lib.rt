@@ -9,8 +9,6 @@ mod laws;
 mod pruning;
 mod reaching;
 mod reducing;
-#[cfg(test)]
-mod tests;
 
 pub use closing::{Closed, close, undo_to};
 pub use cutting::{cross_off, cut_to};
@@ -18,7 +16,7 @@ pub use equality::classes;
 pub use kept::{Classes, Kept};
 pub use laws::{
     equal_states_exchange, one_pruning, pruning_keeps_closures, pruning_keeps_solutions,
-    unkept_can_be_absent,
+    reduced_is_whole, unkept_can_be_absent,
 };
 pub use pruning::{Pruned, prune};
 pub use reaching::drop_unreachable;

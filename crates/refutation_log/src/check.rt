@@ -28,6 +28,3 @@ pub fn refutes(instance: &Instance, log: &Log, scratch: &mut RefuteScratch) -> b
     let _packages = instance.packages();
     scratch.accepts(instance, log.items())
 }
-
-#[cfg(test)]
-mod tests;

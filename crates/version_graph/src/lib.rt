@@ -11,8 +11,6 @@ mod laws;
 mod needs;
 mod restricting;
 mod state_map;
-#[cfg(test)]
-mod tests;
 mod trail;
 
 pub use building::InstanceBuilder;
