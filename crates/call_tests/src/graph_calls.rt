@@ -6,7 +6,7 @@ ghost use Rattle.version_graph.specs.Noted.{Holds};
 
 use graph_pruning::{Closed, close, undo_to};
 use pkg_world::LimitKind;
-use refutation_log::{Log, Node, NodeKind, RefuteScratch, more_choices_refute, refutes};
+use refutation_log::{Log, Node, NodeKind, RefuteScratch, refutes};
 use std::alloc::{AllocError, Global};
 use std::test::Fail;
 use version_graph::{Domains, GraphFault, Instance, InstanceBuilder, Trail};
@@ -324,7 +324,6 @@ fn verdict(alloc: Global, instance: &Instance, nodes: &[Node]) -> Result<Option<
 
 #[test]
 fn two_that_refuse_each_other_are_refuted_by_a_leaf(rt: HostRuntime) -> Result<(), Fail> {
-    more_choices_refute();
     let world = two_that_refuse(rt.alloc())?;
     let cases: [(&[Node], bool); 5] = [
         (&[leaf(None)], true),
