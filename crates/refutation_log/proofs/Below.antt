@@ -3,7 +3,7 @@ use Rattle.std.proofs.Common.{◌≡◌, ℕ, ◌<◌, Bool, true, false, not, �
 use Rattle.std.proofs.lemmas.Bool.{and_parts, and_from, or_parts, or_from, not-false, not_from_true}
 use Rattle.std.proofs.lemmas.List.Folds.{list_all-append, list_any-append}
 use Rattle.version_graph.specs.Graph.{Graph, packages, is_offered}
-use Rattle.version_graph.specs.Family.{Family, IsStable, IsWithin, IsBelow, InClosure, HasEmpty, narrowed, agrees, under}
+use Rattle.version_graph.specs.Family.{Family, IsStable, IsWithin, IsBelow, HasEmpty, narrowed, agrees, under}
 use Rattle.graph_pruning.specs.Pruned.{Pruning}
 use Rattle.refutation_log.specs.Tree.{Tree, Children, leaf, branch, done, child}
 use Rattle.refutation_log.specs.Refutes.{Refutes, EachRefutes, is_chosen, Prefix}

@@ -1,9 +1,9 @@
 -- What a trail tells of the domains that it holds, and what closing them leaves.
-use Rattle.std.proofs.Common.{◌≡◌, ℕ, ◌<◌, ◌≤◌, Bool, true, false, not, ◌&&◌, ◌||◌, ◌==◌, nat_lt, List, [], length, take, sym, ap, refl, ◌∙◌, arith}
+use Rattle.std.proofs.Common.{◌≡◌, ℕ, ◌≤◌, Bool, true, false, List, [], length, take, sym, ap, refl, ◌∙◌, arith}
 use Rattle.std.proofs.lemmas.Bool.{and_from}
 use Rattle.std.proofs.lemmas.List.{length-take, take-take}
-use Rattle.version_graph.specs.Graph.{Graph, states, is_offered}
-use Rattle.version_graph.specs.Family.{Family, InClosure, LiesBetween, HasEmpty, narrowed, under}
+use Rattle.version_graph.specs.Graph.{Graph, is_offered}
+use Rattle.version_graph.specs.Family.{Family, InClosure, LiesBetween, HasEmpty, under}
 use Rattle.version_graph.specs.Domain.{Rows, has}
 use Rattle.version_graph.specs.Noted.{History, Holds, left_by, is_noted}
 use Rattle.graph_pruning.specs.Closing.{IsClosedFrom}

@@ -1,12 +1,12 @@
 -- A tree over the pruned instance refutes the instance.
-use Rattle.std.proofs.Common.{◌≡◌, ℕ, ◌<◌, Bool, true, false, ◌||◌, ◌==◌, List, [], ◌∷◌, ◌++◌, map, refl, sym, ◌∙◌, subst, ap, inl, inr}
+use Rattle.std.proofs.Common.{◌≡◌, ℕ, ◌<◌, true, false, ◌==◌, [], ◌∷◌, ◌++◌, refl, sym, ◌∙◌, subst, ap, inl, inr}
 use Rattle.std.proofs.lemmas.Bool.{and_parts, and_from, or_parts, or_from, or_cases, or_left, or_right, eq-eqb, eqb-true, eqb-false, ne_eqb}
 use Rattle.std.proofs.lemmas.List.{map-append}
 use Rattle.version_graph.specs.Graph.{Graph, packages, states, is_offered}
 use Rattle.version_graph.specs.Family.{InClosure, agrees, under}
 use Rattle.version_graph.specs.Part.{Part, package_of, state_of}
-use Rattle.graph_pruning.specs.Pruned.{Pruning, left, IsUnpruned}
-use Rattle.graph_pruning.specs.Reduced.{IsReduction, AreKnown, before, ClosuresCorrespond, PruningKeepsClosures}
+use Rattle.graph_pruning.specs.Pruned.{Pruning, IsUnpruned}
+use Rattle.graph_pruning.specs.Reduced.{IsReduction, AreKnown, before, PruningKeepsClosures}
 use Rattle.graph_pruning.proofs.PruneLemmas.{closed_known, left_closed}
 use Rattle.graph_pruning.proofs.ReduceLemmas.{home, package_same, number}
 use Rattle.refutation_log.specs.Tree.{Tree, Children, leaf, branch, done, child, has_standing}
@@ -65,26 +65,24 @@ module _ (law : PruningKeepsClosures) (g : Graph) (pr : Pruning) (h : Graph) (b 
   mutual
     pub refutes_before : (prefix : Prefix) → AreKnown h prefix → (t : Tree) → Refutes h own prefix t → Refutes g pr (before b prefix) (renumbered b t)
     refutes_before prefix chosen leaf e = (law g pr h b r prefix chosen).empty.0 e
-    refutes_before prefix chosen (branch p cs) e =
-        (
-          home g pr h b r p e.0,
-          r.reduced.sound p e.0,
-          free_before prefix p chosen e.0 e.2,
-          record {
-            covers = λ i k.
-                let n = number g pr h b r p i e.0 (closed_first (before b prefix) (package_of b p) i k) in
-                let low = (law g pr h b r prefix chosen).down p i n.0 e.0 n.1 (sym n.2) k in
-                ap (has_standing (renumbered_each b p cs) (pr.standing (package_of b p))) (sym n.2)
-                ∙ covered_before prefix p n.0 cs e.0 e.4 (ap (has_standing cs (own.standing p)) (sym (u.alone p n.0)) ∙ e.3.covers n.0 low);
-          },
-          each_before prefix chosen p e.0 cs e.4,
-        )
+    refutes_before prefix chosen (branch p cs) e = (
+      home g pr h b r p e.0,
+      r.reduced.sound p e.0,
+      free_before prefix p chosen e.0 e.2,
+      record {
+        covers = λ i k.
+            let n = number g pr h b r p i e.0 (closed_first (before b prefix) (package_of b p) i k) in
+            let low = (law g pr h b r prefix chosen).down p i n.0 e.0 n.1 (sym n.2) k in
+            ap (has_standing (renumbered_each b p cs) (pr.standing (package_of b p))) (sym n.2)
+            ∙ covered_before prefix p n.0 cs e.0 e.4 (ap (has_standing cs (own.standing p)) (sym (u.alone p n.0)) ∙ e.3.covers n.0 low);
+      },
+      each_before prefix chosen p e.0 cs e.4,
+    )
 
     each_before : (prefix : Prefix) → AreKnown h prefix → (p : ℕ) → p < packages h → (cs : Children) → EachRefutes h own prefix p cs → EachRefutes g pr (before b prefix) (package_of b p) (renumbered_each b p cs)
     each_before prefix chosen p known done e = tt
-    each_before prefix chosen p known (child i t cs) e =
-        (
-          state_known p i known e.0,
-          subst (λ x. Refutes g pr x (renumbered b t)) (before-push b prefix p i) (refutes_before (prefix ++ (p, i) ∷ []) (known_push h prefix p i chosen known e.0) t e.1),
-          each_before prefix chosen p known cs e.2,
-        )
+    each_before prefix chosen p known (child i t cs) e = (
+      state_known p i known e.0,
+      subst (λ x. Refutes g pr x (renumbered b t)) (before-push b prefix p i) (refutes_before (prefix ++ (p, i) ∷ []) (known_push h prefix p i chosen known e.0) t e.1),
+      each_before prefix chosen p known cs e.2,
+    )

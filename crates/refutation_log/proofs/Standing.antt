@@ -1,5 +1,5 @@
 -- What stands for a state.
-use Rattle.std.proofs.Common.{◌≡◌, ℕ, ◌<◌, Bool, true, false, not, List, [], slice_index_or, sym, ◌∙◌, ap, arith, inl, inr}
+use Rattle.std.proofs.Common.{◌≡◌, ℕ, ◌<◌, Bool, true, false, not, List, [], slice_index_or, sym, ◌∙◌, arith, inl, inr}
 use Rattle.std.proofs.lemmas.Bool.{cases_Bool, not-false}
 use Rattle.version_graph.specs.Graph.{Graph, packages, states, is_offered}
 use Rattle.version_graph.specs.Family.{Family, InClosure, under}

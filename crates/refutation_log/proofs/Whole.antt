@@ -1,5 +1,5 @@
 -- What the whole list of nodes is, from what its first tree is.
-use Rattle.std.proofs.Common.{◌≡◌, ◌↔◌, ℕ, ◌<◌, Bool, true, false, not, ◌||◌, ◌==◌, IsTrue, is_some, List, [], ◌∷◌, ◌++◌, Option, Some, None, length, sym, ap, refl, ◌∙◌, subst, append-nil, arith}
+use Rattle.std.proofs.Common.{◌≡◌, ◌↔◌, ℕ, ◌<◌, Bool, true, false, not, ◌==◌, IsTrue, is_some, List, [], ◌∷◌, ◌++◌, Option, Some, None, length, sym, ap, refl, ◌∙◌, subst, append-nil, arith}
 use Rattle.std.proofs.lemmas.Bool.{eqb-true, eq-eqb}
 use Rattle.refutation_log.specs.declared.node.Node.{Node}
 use Rattle.version_graph.specs.Graph.{Graph, packages}

@@ -1,5 +1,5 @@
 -- What is found at the front of a list of nodes.
-use Rattle.std.specs.Prelude.{◌≡◌, ℕ, ◌<◌, Bool, true, false, not, ◌&&◌, List, [], ◌∷◌, ◌++◌, Option}
+use Rattle.std.specs.Prelude.{◌≡◌, ℕ, ◌<◌, Bool, true, false, not, ◌&&◌, List, ◌++◌, Option}
 use Rattle.refutation_log.specs.declared.node.Node.{Node}
 use Rattle.version_graph.specs.Graph.{Graph, packages}
 use Rattle.version_graph.specs.Family.{Family, HasEmpty, InClosure}

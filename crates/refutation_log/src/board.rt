@@ -28,12 +28,7 @@ impl Board {
     ghost use Rattle.refutation_log.specs.Scratch.{Fits, IsRestored, IsExtended, marks};
 
     /// Whether the nodes are one whole tree that refutes within the domains. Everything is as before then.
-    pub(crate) fn accepts(
-        &mut self,
-        instance: &Instance,
-        classes: &Classes,
-        nodes: &[Node],
-    ) -> bool
+    pub(crate) fn accepts(&mut self, instance: &Instance, classes: &Classes, nodes: &[Node]) -> bool
         requires { Fits instance.now classes.now self.old }
         ensures fits { Fits instance.now classes.now self.new }
         ensures restored { IsRestored self.old self.new }
@@ -198,13 +193,7 @@ impl Board {
             }
             nodes = self.child(instance, classes, nodes, p, i)?;
             let standing = classes.standing(p, i);
-            cross_off(
-                instance,
-                &mut self.missing,
-                &mut self.missed,
-                p,
-                standing,
-            );
+            cross_off(instance, &mut self.missing, &mut self.missed, p, standing);
             left -= 1;
         }
         Some(nodes)

@@ -27,8 +27,7 @@ impl RefuteScratch {
     {
         let mut domains = Domains::full(alloc, instance)?;
         let mut trail = Trail::make(alloc, instance)?;
-        let Pruned { kept, classes, .. } =
-            prune(alloc, instance, &mut domains, &mut trail)?;
+        let Pruned { kept, classes, .. } = prune(alloc, instance, &mut domains, &mut trail)?;
         undo_to(&mut domains, &mut trail, 0);
         let missing = Domains::full(alloc, instance)?;
         let missed = Trail::make(alloc, instance)?;
@@ -61,11 +60,7 @@ impl RefuteScratch {
 }
 
 /// For each package whether no branch may be on it where nothing is chosen.
-fn shut_packages(
-    alloc: Global,
-    instance: &Instance,
-    kept: &Kept,
-) -> Result<Vec<bool>, AllocError>
+fn shut_packages(alloc: Global, instance: &Instance, kept: &Kept) -> Result<Vec<bool>, AllocError>
     requires { length kept.now ≡ packages instance.now }
     ensures each { IfOk result (λ shut. length shut.items ≡ packages instance.now) }
     ensures shut { IfOk result (λ shut. (p : ℕ) → p < packages instance.now → slice_index_or shut.items p false ≡ not (marked kept.now p)) }

@@ -1,4 +1,3 @@
-use Rattle.std.proofs.Common.{◌∙◌, sym, ap, take}
 use Rattle.version_graph.specs.Domain.{has}
 use Rattle.graph_pruning.specs.Marked.{standing_in}
 use Rattle.version_graph.proofs.FamilyLemmas.{below_within, same_closure}

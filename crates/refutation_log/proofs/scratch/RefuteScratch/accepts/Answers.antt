@@ -1,4 +1,4 @@
-use Rattle.std.proofs.Common.{◌≡◌, ◌∙◌, [], ap, subst, refl, sym, slice_index_or, false}
+use Rattle.std.proofs.Common.{◌≡◌, ◌∙◌, [], ap, subst, sym, slice_index_or, false}
 use Rattle.version_graph.specs.Family.{IsBelow, under}
 use Rattle.version_graph.specs.Domain.{has}
 use Rattle.graph_pruning.specs.Marked.{standing_in}
@@ -24,7 +24,7 @@ returns-clause-exact c =
     let full : d ≡ under g [] = full_domains _ _ _ r.fits.domains r.full in
     let same : IsBelow g d d = record { below = λ p i k. k } in
     let one = whole_is_refutation c.one_pruning.ensures g r.pruning (standing_in s.classes) d (marks s.board) c.in-Some.first.now c.args.nodes.now _
-        r.prunes r.stands r.free c.in-Some.ensures.cases.0 (sym c.if-is_some.ensures) (subst (IsBelow g d) full same) (subst (λ f. IsBelow g f d) full same) in
+    r.prunes r.stands r.free c.in-Some.ensures.cases.0 (sym c.if-is_some.ensures) (subst (IsBelow g d) full same) (subst (λ f. IsBelow g f d) full same) in
     let whole = c.accepts.ensures.whole in
     (λ e. one.0 (whole.0 e), λ t. whole.1 (one.1 t))
 

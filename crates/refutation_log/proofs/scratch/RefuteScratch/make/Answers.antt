@@ -1,4 +1,4 @@
-use Rattle.std.proofs.Common.{◌∙◌, ap, length, take, refl}
+use Rattle.std.proofs.Common.{◌∙◌, refl}
 use Rattle.graph_pruning.specs.Marked.{pruning_of}
 use Rattle.refutation_log.proofs.Standing.{standing_known, standing_offered}
 use Rattle.refutation_log.proofs.scratch.RefuteScratch.make.Goals as goal
