@@ -6,13 +6,13 @@ ghost use Rattle.version_graph.specs.Noted.{Holds};
 
 use graph_pruning::{Closed, close, undo_to};
 use pkg_world::LimitKind;
-use refutation_log::{Log, Node, NodeKind, RefuteScratch, more_choices_refute, refutes};
+use refutation_log::{Log, Node, NodeKind, RefuteScratch, refutes};
 use std::alloc::{AllocError, Global};
 use std::test::Fail;
 use version_graph::{Domains, GraphFault, Instance, InstanceBuilder, Trail};
 
 // packages of so many states, where these states are forbidden alone and these pairs together
-fn instance_of(
+pub(crate) fn instance_of(
     alloc: Global,
     sizes: &[u32],
     alone: &[(u32, u32)],
@@ -51,7 +51,7 @@ fn two_roots(alloc: Global) -> Result<Instance, GraphFault> {
 }
 
 // two roots with one version each, each of which takes a version of the other that isn't there
-fn two_that_refuse(alloc: Global) -> Result<Instance, GraphFault> {
+pub(crate) fn two_that_refuse(alloc: Global) -> Result<Instance, GraphFault> {
     instance_of(
         alloc,
         &[2, 2],
@@ -61,7 +61,7 @@ fn two_that_refuse(alloc: Global) -> Result<Instance, GraphFault> {
 }
 
 // three roots with two versions each, each of which takes only the other version of those after it
-fn ring(alloc: Global) -> Result<Instance, GraphFault> {
+pub(crate) fn ring(alloc: Global) -> Result<Instance, GraphFault> {
     let pairs = [
         (0, 0, 1, 2),
         (0, 1, 1, 2),
@@ -324,7 +324,6 @@ fn verdict(alloc: Global, instance: &Instance, nodes: &[Node]) -> Result<Option<
 
 #[test]
 fn two_that_refuse_each_other_are_refuted_by_a_leaf(rt: HostRuntime) -> Result<(), Fail> {
-    more_choices_refute();
     let world = two_that_refuse(rt.alloc())?;
     let cases: [(&[Node], bool); 5] = [
         (&[leaf(None)], true),

@@ -1,7 +1,9 @@
 -- What is true of the walk. The proofs ask of the choice no more than that it is lawful.
-use Rattle.std.specs.Prelude.{◌≡◌, ℕ, List}
+use Rattle.std.specs.Prelude.{◌≡◌, ℕ, List, [], None}
 use Rattle.version_graph.specs.Graph.{Graph, IsSolution}
-use Rattle.refutation_log.specs.Refutes.{IsRefutation}
+use Rattle.graph_pruning.specs.Pruned.{Pruning, IsUnpruned}
+use Rattle.refutation_log.specs.Tree.{Tree, preorder}
+use Rattle.refutation_log.specs.Refutes.{Refutes, HasNoSolution}
 use Rattle.refutation_log.specs.declared.node.Node.{Node}
 use Rattle.decimation_repair.specs.Choice.{FirstChoice}
 use Rattle.decimation_repair.specs.Walk.{Choice, IsChoice, Finds, Ends, Spends}
@@ -26,6 +28,17 @@ ChoiceIsLawful = IsChoice FirstChoice
 abbrev pub FoundIsSolution : Type 0
 FoundIsSolution = (g : Graph) (budget : ℕ) (chosen : List ℕ) (nodes : List Node) → Finds g FirstChoice budget chosen nodes → IsSolution g chosen
 
--- the nodes of a walk that ends without a solution refute the instance, so that it has none
+-- the nodes are the pre-order list of a whole tree that refutes by this pruning
+pub record IsRefutedBy (g : Graph) (pruning : Pruning) (nodes : List Node) : Type 0 where
+  pub tree : Tree
+  pub listed : nodes ≡ preorder None tree
+  pub refutes : Refutes g pruning [] tree
+
+-- the nodes of a walk that ends without a solution refute the instance, of which nothing is pruned again: so the log
+-- of a pruned instance refutes the instance that it was pruned from, by the numbers before
 abbrev pub EndRefutes : Type 0
-EndRefutes = (g : Graph) (budget : ℕ) (nodes : List Node) → Ends g FirstChoice budget nodes → IsRefutation g nodes
+EndRefutes = (g : Graph) (own : Pruning) → IsUnpruned g own → (budget : ℕ) (nodes : List Node) → Ends g FirstChoice budget nodes → IsRefutedBy g own nodes
+
+-- so the instance has no solution
+abbrev pub EndLeavesNone : Type 0
+EndLeavesNone = (g : Graph) (budget : ℕ) (nodes : List Node) → Ends g FirstChoice budget nodes → HasNoSolution g

@@ -1,5 +1,5 @@
 //! Laws of the walk, each a call that does nothing and says the law.
-ghost use Rattle.decimation_repair.specs.Laws.{WalkIsOne, ChoiceIsLawful, FoundIsSolution, EndRefutes};
+ghost use Rattle.decimation_repair.specs.Laws.{WalkIsOne, ChoiceIsLawful, FoundIsSolution, EndRefutes, EndLeavesNone};
 
 /// An instance has one walk: one solution or none, and one list of nodes.
 pub fn walk_is_one()
@@ -16,7 +16,12 @@ pub fn found_is_solution()
     ensures { FoundIsSolution }
 {}
 
-/// The nodes of a walk that ends without a solution refute the instance.
+/// The nodes of a walk that ends without a solution refute the instance, of which nothing is pruned again.
 pub fn end_refutes()
     ensures { EndRefutes }
+{}
+
+/// Where the walk ends without a solution, there is none.
+pub fn end_leaves_none()
+    ensures { EndLeavesNone }
 {}

@@ -6,5 +6,5 @@ mod laws;
 mod path;
 mod search;
 
-pub use laws::{choice_is_lawful, end_refutes, found_is_solution, walk_is_one};
+pub use laws::{choice_is_lawful, end_leaves_none, end_refutes, found_is_solution, walk_is_one};
 pub use search::{Outcome, Search};

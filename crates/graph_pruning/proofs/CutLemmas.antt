@@ -6,8 +6,12 @@ use Rattle.version_graph.specs.Graph.{Graph, packages, states, last, is_offered}
 use Rattle.version_graph.specs.Family.{Family, InClosure, IsClosureOf, IsFilled, HasEmpty, narrowed, under}
 use Rattle.version_graph.specs.Domain.{Rows, has}
 use Rattle.version_graph.specs.Noted.{History, Holds}
-use Rattle.graph_pruning.specs.Pruned.{AreStanding}
-use Rattle.graph_pruning.specs.Marked.{marked}
+use Rattle.version_graph.specs.Part.{Part}
+use Rattle.graph_pruning.specs.Pruned.{left, AreStanding}
+use Rattle.graph_pruning.specs.Marked.{marked, pruning_of}
+use Rattle.graph_pruning.specs.Reduced.{IsReducedTo}
+use Rattle.graph_pruning.proofs.PruneLemmas.{left_kept}
+use Rattle.graph_pruning.proofs.PartingLemmas.{marked_below}
 use Rattle.graph_pruning.proofs.SpreadLemmas.{held-known}
 
 and-true : (b : Bool) → b ≡ (b && true)
@@ -139,3 +143,20 @@ standing_where g f s standing same c = subst (λ d. AreStanding g d standing) (�
 pub open_or_not : (g : Graph) (f s : Family) (b : Bool) → ((p i : ℕ) → f p i ≡ is_offered g p i) → MatchBool b (IsFilled g s) (HasEmpty g f) → MatchBool b (IsFilled g s) (HasEmpty g (under g []))
 open_or_not g f s true full m = m
 open_or_not g f s false full m = empty_under g f full m
+
+pub standing_back : (g : Graph) (f s : Family) (standing : ℕ → ℕ → ℕ) → ((p i : ℕ) → f p i ≡ s p i) → AreStanding g s standing → AreStanding g f standing
+standing_back g f s standing same c = subst (λ d. AreStanding g d standing) (λ x p i. sym (same p i) x) c
+
+pub reduced_where : (g : Graph) (f s : Family) (kept : ℕ → Bool) (standing : ℕ → ℕ → ℕ) (h : Graph) (b : Part) → ((p i : ℕ) → f p i ≡ s p i) → IsReducedTo g f kept standing h b → IsReducedTo g s kept standing h b
+reduced_where g f s kept standing h b same r = subst (λ d. IsReducedTo g d kept standing h b) (λ x p i. same p i x) r
+
+pub pruned_filled : (g : Graph) (closed : Family) (b : Bool) → b ≡ true → MatchBool b (IsFilled g closed) (HasEmpty g (under g [])) → IsFilled g closed
+pruned_filled g closed true e m = m
+pruned_filled g closed false e m = absurd (cc)
+
+-- a kept package has a state in the pruned domains
+pub pruned_some : (g : Graph) (f closed : Family) (kept : List Bool) (rows : List (List ℕ)) → length kept ≡ packages g → ((p i : ℕ) → f p i ≡ left g (pruning_of closed kept rows) p i) →
+    IsFilled g closed → (p : ℕ) → marked kept p ≡ true → (i : ℕ) × (f p i ≡ true)
+pruned_some g f closed kept rows each same filled p here =
+    let s = filled.some p (omega (arith, each, marked_below kept p here)) in
+    (s.0, same p s.0 ∙ left_kept g (pruning_of closed kept rows) p s.0 here s.1)

@@ -73,7 +73,7 @@ part_more f kept standing n m new xs here list e b = record {
     last_package : (k : ℕ) → k ≡ length m → package_of new k ≡ n
     last_package k at = ap (λ (x : ℕ × List ℕ). x.0) (last_at k at)
 
-marked_below : (marks : List Bool) (p : ℕ) → marked marks p ≡ true → p < length marks
+pub marked_below : (marks : List Bool) (p : ℕ) → marked marks p ≡ true → p < length marks
 marked_below marks p e = elim (cases_lt p (length marks)) [ inl below ↦ below | inr past ↦ absurd (both_ways _ (get_or_past marks p false past) e) ]
 
 stands_from : (f : Family) (standing : ℕ → ℕ → ℕ) (p i : ℕ) → does_stand f standing p i ≡ true → IsStanding f standing p i

@@ -6,8 +6,8 @@ use Rattle.std.proofs.lemmas.Bool.{cases_eq, cases_lt, cases_order, cases_Bool, 
 use Rattle.version_graph.specs.Graph.{Graph, packages, states, last, is_barred, is_offered, is_forbidden, IsSolution}
 use Rattle.version_graph.specs.Family.{Family, IsWithin, IsStable, InClosure, HasEmpty, agrees, under, EmptyIsEverywhere, SolutionIsClosed}
 use Rattle.version_graph.specs.Part.{Part, package_of, state_of}
-use Rattle.graph_pruning.specs.Pruned.{Pruning, left}
-use Rattle.graph_pruning.specs.Reduced.{IsReduction, before, AreKnown, ClosuresCorrespond, IsCutTo, IsWidenedTo, SolutionsCorrespond}
+use Rattle.graph_pruning.specs.Pruned.{Pruning, left, IsUnpruned}
+use Rattle.graph_pruning.specs.Reduced.{IsReduction, before, AreKnown, ClosuresCorrespond, IsCutTo, IsWidenedTo, SolutionsCorrespond, whole_of}
 use Rattle.graph_pruning.proofs.SpreadLemmas.{forbidden-flip}
 use Rattle.graph_pruning.proofs.PruneLemmas.{some_below, some_from, some_parts, closed_offered, offered_known, offered_unbarred, offered_from, closed_before, standing_itself, both_alike, kept_known, no_need, absent_left, left_kept, left_absent, left_closed, left_solves}
 
@@ -43,10 +43,10 @@ choose_below P (suc n) f =
     )
 
 module _ (g : Graph) (pr : Pruning) (h : Graph) (b : Part) (r : IsReduction g pr h b) where
-  home : (p : ℕ) → p < packages h → package_of b p < packages g
+  pub home : (p : ℕ) → p < packages h → package_of b p < packages g
   home p known = kept_known g pr r.graph r.plain r.pruning r.filled (package_of b p) (r.reduced.sound p known)
 
-  package_same : (p q : ℕ) → p < packages h → q < packages h → package_of b p ≡ package_of b q → p ≡ q
+  pub package_same : (p q : ℕ) → p < packages h → q < packages h → package_of b p ≡ package_of b q → p ≡ q
   package_same p q first second e =
       elim (cases_order p q) [
         | inl same ↦ same
@@ -71,7 +71,7 @@ module _ (g : Graph) (pr : Pruning) (h : Graph) (b : Part) (r : IsReduction g pr
   inside p i known here = left_kept g pr (package_of b p) i (r.reduced.sound p known) here
 
   -- the number of the state that stands for a closed one
-  number : (p i : ℕ) → p < packages h → pr.closed (package_of b p) i ≡ true → (n : ℕ) × (n < states h p) × (state_of b p n ≡ pr.standing (package_of b p) i)
+  pub number : (p i : ℕ) → p < packages h → pr.closed (package_of b p) i ≡ true → (n : ℕ) × (n < states h p) × (state_of b p n ≡ pr.standing (package_of b p) i)
   number p i known here =
       r.reduced.states_whole p (pr.standing (package_of b p) i) known
       (standing_itself g (left g pr) pr.standing (package_of b p) i r.pruning.classes (inside p i known here))
@@ -370,6 +370,29 @@ module _ (g : Graph) (pr : Pruning) (h : Graph) (b : Part) (r : IsReduction g pr
         }
         | inr none ↦ absurd (never_empty prefix chosen none e)
       ]
+
+  -- each state of the pruned instance is closed where nothing is chosen, and each package has one
+  pub reduced_whole : IsUnpruned h (whole_of h)
+  reduced_whole = record {
+    closure = record {
+      sound = λ p j here.
+          let parts = and_parts (ltb p (packages h)) (ltb j (states h p)) here in
+          let known = ltb-true _ _ parts.0 in
+          let state = ltb-true _ _ parts.1 in
+          let own = r.reduced.states_sound p j known state in
+          down [] tt p (state_of b p j) j known state own.itself (r.pruning.closure.sound (package_of b p) (state_of b p j) (left_closed g pr (package_of b p) (state_of b p j) own.inside));
+      whole = λ p j k.
+          let known = offered_known h p j (and_parts (is_offered h p j) true (k.within.at p j k.here)).0 in
+          and_from (ltb p (packages h)) (ltb j (states h p)) (lt-ltb _ _ known.0) (lt-ltb _ _ known.1);
+    };
+    all = λ _ p known. lt-ltb _ _ known;
+    known = λ p kept. ltb-true _ _ kept;
+    none = λ p known none.
+        let some = r.filled.some (package_of b p) (home p known) in
+        let n = number p some.0 known some.1 in
+        absurd (both_ways _ (none n.0) (and_from (ltb p (packages h)) (ltb n.0 (states h p)) (lt-ltb _ _ known) (lt-ltb _ _ n.1)));
+    alone = λ p i. refl;
+  }
 
   pub closures_correspond : EmptyIsEverywhere → (prefix : List (ℕ × ℕ)) → AreKnown h prefix → ClosuresCorrespond g pr h b prefix
   closures_correspond law prefix chosen = record {

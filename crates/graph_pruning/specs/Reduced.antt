@@ -1,10 +1,10 @@
 -- The pruned instance, and that nothing is lost in it: its solutions are those of the instance, and so are the
 -- closures under each prefix. A pruned instance needn't be plain: its last state may be an offer. (own rule)
-use Rattle.std.specs.Prelude.{◌≡◌, ◌≢◌, ℕ, ◌<◌, Bool, true, false, List, [], ◌∷◌, length, map, slice_index, ◌↔◌}
+use Rattle.std.specs.Prelude.{◌≡◌, ◌≢◌, ℕ, ◌<◌, Bool, true, false, ◌&&◌, nat_lt, List, [], ◌∷◌, length, map, slice_index, ◌↔◌}
 use Rattle.version_graph.specs.Graph.{Graph, packages, states, last, is_barred, is_forbidden, IsGraph, IsPlain, IsSolution}
 use Rattle.version_graph.specs.Family.{Family, IsFilled, InClosure, HasEmpty, agrees, under}
 use Rattle.version_graph.specs.Part.{Part, package_of, states_of, state_of}
-use Rattle.graph_pruning.specs.Pruned.{Pruning, left, IsPruningOf}
+use Rattle.graph_pruning.specs.Pruned.{Pruning, left, IsPruningOf, IsUnpruned}
 
 -- a state of the domains that stands for its class
 pub record IsStanding (f : Family) (standing : ℕ → ℕ → ℕ) (p i : ℕ) : Type 0 where
@@ -80,3 +80,11 @@ PruningKeepsClosures = (g : Graph) (pr : Pruning) (h : Graph) (b : Part) → IsR
 
 abbrev pub PruningKeepsSolutions : Type 0
 PruningKeepsSolutions = (g : Graph) (pr : Pruning) (h : Graph) (b : Part) → IsReduction g pr h b → SolutionsCorrespond g pr h b
+
+-- every package and every state, where no two states are taken for one
+abbrev pub whole_of : Graph → Pruning
+whole_of h = record { closed = λ p i. nat_lt p (packages h) && nat_lt i (states h p); kept = λ p. nat_lt p (packages h); standing = λ p i. i }
+
+-- of a pruned instance nothing is pruned again: each of its states is closed where nothing is chosen
+abbrev pub ReducedIsWhole : Type 0
+ReducedIsWhole = (g : Graph) (pr : Pruning) (h : Graph) (b : Part) → IsReduction g pr h b → IsUnpruned h (whole_of h)

@@ -1,7 +1,7 @@
 //! Laws of pruning, each a call that does nothing and says the law.
 ghost use Rattle.graph_pruning.specs.Pruned.{OnePruning};
 ghost use Rattle.graph_pruning.specs.Exchange.{UnkeptCanBeAbsent, EqualStatesExchange};
-ghost use Rattle.graph_pruning.specs.Reduced.{PruningKeepsClosures, PruningKeepsSolutions};
+ghost use Rattle.graph_pruning.specs.Reduced.{PruningKeepsClosures, PruningKeepsSolutions, ReducedIsWhole};
 
 use version_graph::{empty_is_everywhere, solution_is_closed};
 
@@ -40,3 +40,9 @@ pub fn equal_states_exchange()
 {
     solution_is_closed();
 }
+
+/// Of a pruned instance nothing is pruned again: each of its states is closed where nothing is chosen, and each of
+/// its packages has one.
+pub fn reduced_is_whole()
+    ensures { ReducedIsWhole }
+{}

@@ -16,7 +16,7 @@ pub use equality::classes;
 pub use kept::{Classes, Kept};
 pub use laws::{
     equal_states_exchange, one_pruning, pruning_keeps_closures, pruning_keeps_solutions,
-    unkept_can_be_absent,
+    reduced_is_whole, unkept_can_be_absent,
 };
 pub use pruning::{Pruned, prune};
 pub use reaching::drop_unreachable;

@@ -1,16 +1,18 @@
 //! The pruning of an instance: closing, reaching and comparing, one after another.
-ghost use Rattle.std.specs.Prelude.{◌≡◌, ℕ, length, take, IfOk, MatchBool};
-ghost use Rattle.version_graph.specs.Graph.{is_offered};
-ghost use Rattle.version_graph.specs.Family.{IsFilled, IsClosureOf, HasEmpty};
-ghost use Rattle.version_graph.specs.Domain.{has};
+ghost use Rattle.std.specs.Prelude.{◌≡◌, ℕ, true, length, take, IfOk, MatchBool};
+ghost use Rattle.version_graph.specs.Graph.{is_offered, IsPlain};
+ghost use Rattle.version_graph.specs.Family.{Family, IsFilled, IsClosureOf, HasEmpty};
+ghost use Rattle.version_graph.specs.Domain.{has, IsFor};
 ghost use Rattle.version_graph.specs.Noted.{Holds};
-ghost use Rattle.graph_pruning.specs.Marked.{IsPruned};
+ghost use Rattle.graph_pruning.specs.Marked.{pruning_of, IsPruned};
+ghost use Rattle.graph_pruning.specs.Reduced.{IsReduction};
 
 use crate::closing::{Closed, close};
 use crate::cutting::{cut_unkept, empty_all};
 use crate::equality::classes;
 use crate::kept::{Classes, Kept};
 use crate::reaching::drop_unreachable;
+use crate::reducing::{Reduced, reduce};
 use std::alloc::{AllocError, Global};
 use version_graph::{Domains, Instance, Trail};
 
@@ -23,6 +25,28 @@ pub struct Pruned {
     pub classes: Classes,
     /// Whether no closed domain is empty. Where one is, there is no solution, and no package is kept.
     pub is_open: bool,
+}
+
+impl Pruned {
+    /// The pruned instance, where no closed domain is empty; the domains are the pruned ones. The one error is
+    /// want of memory.
+    pub fn reduced(
+        &self,
+        alloc: Global,
+        instance: &Instance,
+        domains: &Domains,
+    ) -> Result<Reduced, AllocError>
+        requires plain { IsPlain instance.now }
+        requires made { IsFor instance.now domains.now }
+        requires pruned { IsPruned instance.now (has domains.now) self.now.kept self.now.classes self.now.is_open }
+        requires filled { self.now.is_open ≡ true }
+        ensures { IfOk result (λ reduced. (closed : Family) × IsReduction instance.now (pruning_of closed self.now.kept self.now.classes) reduced.instance reduced.back) }
+    {
+        // what is true of every instance
+        let _packages = instance.packages();
+        let reduced = reduce(alloc, instance, domains, &self.kept, &self.classes)?;
+        Ok(reduced)
+    }
 }
 
 /// The pruning of the instance. The full domains are cut to the pruned ones: the closed ones, with each package
