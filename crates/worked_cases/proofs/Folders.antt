@@ -1,5 +1,5 @@
 -- Folders among folders.
-use Rattle.std.proofs.Common.{◌≡◌, ℕ, List, [], ◌∷◌, Option, Some, None, IsSome, Ordering, Less, Equal, Greater, nat_cmp, refl, ap, ◌∙◌}
+use Rattle.std.proofs.Common.{◌≡◌, ℕ, List, [], ◌∷◌, Option, Some, None, IsSome, Ordering, Less, Equal, Greater, nat_cmp, refl}
 use Rattle.std.specs.Cmp.Lexicographic.{slice_cmp}
 use Rattle.std.specs.Ordering.{match_ordering}
 use Rattle.pkg_world.specs.Path.{Path}
