@@ -19,7 +19,7 @@ use Rattle.refutation_log.specs.declared.node.Node.{Node}
 use Rattle.refutation_log.specs.declared.node.NodeKind.TheVariants.{Branch}
 use Rattle.decimation_repair.specs.Walk.{Task, root, behind, Visits, open_at, Walks}
 use Rattle.decimation_repair.specs.Choice.{IsUndecided, FirstChoice}
-use Rattle.decimation_repair.specs.Path.{nothing, chosen_at, prefix_of, before, domains_at, IsChosenAt, IsPath, IsFirstWide, down, untried, pending, entered, task_of, Arrived, Closed, Dead, Left}
+use Rattle.decimation_repair.specs.Path.{nothing, chosen_at, prefix_of, choices_before, domains_at, IsChosenAt, IsPath, IsFirstWide, down, untried, pending, entered, task_of, Arrived, Settled, Dead, Left}
 use Rattle.decimation_repair.specs.declared.path.Chosen.{Chosen}
 use Rattle.decimation_repair.proofs.EndLemmas.{agree-at}
 use Rattle.decimation_repair.proofs.StandLemmas.{Agree, front-less, take-front, same-chosen, same-before, same-pending, same-at, same-taken, same-family, between-closed, between-empty, filled-not-empty, first-choice, count-of-down, walks-more, down-next, down-none, down-alike, undecided-here, decided-here}
@@ -62,7 +62,7 @@ longer-walks g path notes more nodes p e w =
     subst (λ l. Walks g FirstChoice (root ∷ []) nodes (task_of path ∷ l)) (sym (same-pending g path path notes more (length path) (length path) (longer-agree g path notes more p e) (omega arith))) w
 
 pub closed-arrived : (g : Graph) (path : List Chosen) (old new : Rows) (s t : History) (nodes : List Node) → Arrived g path old s nodes → Holds g new t → take (length s.notes) t.notes ≡ s.notes →
-    IsClosedFrom g (has old) (has new) → Closed g path new t nodes
+    IsClosedFrom g (has old) (has new) → Settled g path new t nodes
 closed-arrived g path old new s t nodes a holds e c = record {
   holds = holds;
   path_is = longer-path g path s.notes t.notes a.path_is e;
@@ -97,7 +97,7 @@ abbrev as_pair : Chosen → ℕ × ℕ
 as_pair c = (c.package, c.state)
 
 -- each package before a depth is chosen there
-earlier-chosen : (path : List Chosen) (d e : ℕ) → e < d → d ≤ length path → is_chosen (before path d) (chosen_at path e).package ≡ true
+earlier-chosen : (path : List Chosen) (d e : ℕ) → e < d → d ≤ length path → is_chosen (choices_before path d) (chosen_at path e).package ≡ true
 earlier-chosen path d e h b =
     let xs = take d path in
     let long : length xs ≡ d = length-take-le d path b in
@@ -145,16 +145,16 @@ apart-packages g path notes p w u = IsDistinct-from_apart eqb (packages_of path 
       | inl same ↦
           let second = package-last path p j d same in
           let is = earlier-chosen path (length path) i (omega (arith, h, same)) (omega arith) in
-          let whole : before path (length path) ≡ prefix_of path = ap prefix_of (take-length path) in
+          let whole : choices_before path (length path) ≡ prefix_of path = ap prefix_of (take-length path) in
           let out = undecided-free g (prefix_of path) p u in
           ap (λ x. eqb x (get_or (packages_of path p) j d)) first ∙ ap (eqb (chosen_at path i).package) second
           ∙ not-same (chosen_at path i).package p (λ e. let t = ap (λ x. is_chosen x (chosen_at path i).package) (sym whole) ∙ is in let v = ap (is_chosen (prefix_of path)) (sym e) ∙ t in cc)
       | inr ne ↦
           let second = package-early path p j d (omega (arith, b, ne, long)) in
           let is = earlier-chosen path j i h (omega (arith, b, long)) in
-          let out = undecided-free g (before path j) (chosen_at path j).package (w.at j (omega (arith, b, ne, long))).undecided in
+          let out = undecided-free g (choices_before path j) (chosen_at path j).package (w.at j (omega (arith, b, ne, long))).undecided in
           ap (λ x. eqb x (get_or (packages_of path p) j d)) first ∙ ap (eqb (chosen_at path i).package) second
-          ∙ not-same (chosen_at path i).package (chosen_at path j).package (λ e. let v = ap (is_chosen (before path j)) (sym e) ∙ is in cc)
+          ∙ not-same (chosen_at path i).package (chosen_at path j).package (λ e. let v = ap (is_chosen (choices_before path j)) (sym e) ∙ is in cc)
     ])
 
 member-of : (g : Graph) (path : List Chosen) (p q : ℕ) → ((k : ℕ) → k < length path → (chosen_at path k).package < packages g) → p < packages g → list_any (eqb q) (packages_of path p) ≡ true → q < packages g
@@ -188,14 +188,14 @@ longer-by-one path c = length-append path (c ∷ [])
 new-last : (path : List Chosen) (c : Chosen) (k : ℕ) → k ≡ length path → chosen_at (path ++ c ∷ []) k ≡ c
 new-last path c k e = ap (chosen_at (path ++ c ∷ [])) e ∙ get_or-append_seam path c [] nothing
 
-before-new : (path : List Chosen) (c : Chosen) (k : ℕ) → k ≡ length path → before (path ++ c ∷ []) k ≡ prefix_of path
-before-new path c k e = ap (before (path ++ c ∷ [])) e ∙ ap prefix_of (take-append_seam path (c ∷ []))
+before-new : (path : List Chosen) (c : Chosen) (k : ℕ) → k ≡ length path → choices_before (path ++ c ∷ []) k ≡ prefix_of path
+before-new path c k e = ap (choices_before (path ++ c ∷ [])) e ∙ ap prefix_of (take-append_seam path (c ∷ []))
 
 -- domains that a trail holds are what all of its notes leave
 held-family : (g : Graph) (d : Rows) (t : History) (n : ℕ) → Holds g d t → n ≡ length t.notes → (p i : ℕ) → left_by g (take n t.notes) p i ≡ has d p i
 held-family g d t n h e p i = ap (λ l. left_by g l p i) (ap (λ k. take k t.notes) e ∙ take-length t.notes) ∙ sym (h.left p i)
 
-branch-at : (g : Graph) (path : List Chosen) (d : Rows) (t : History) (nodes : List Node) (c : Chosen) (k : ℕ) → Closed g path d t nodes → IsFirstWide g d c.package →
+branch-at : (g : Graph) (path : List Chosen) (d : Rows) (t : History) (nodes : List Node) (c : Chosen) (k : ℕ) → Settled g path d t nodes → IsFirstWide g d c.package →
     c.state ≡ states g c.package → c.mark ≡ length t.notes → k ≡ length path → IsChosenAt g (path ++ c ∷ []) t.notes k
 branch-at g path d t nodes c k w f state mark e =
     let here = new-last path c k e in
@@ -211,7 +211,7 @@ branch-at g path d t nodes c k w f state mark e =
       least = λ q u b. decided-here g (prefix_of path) d q w.closed (f.least q (subst (λ (x : Chosen). q < x.package) here b)) (subst (λ x. IsUndecided g x q) front u);
     }
 
-branch-path : (g : Graph) (path : List Chosen) (d : Rows) (t : History) (nodes : List Node) (c : Chosen) → Closed g path d t nodes → IsFirstWide g d c.package →
+branch-path : (g : Graph) (path : List Chosen) (d : Rows) (t : History) (nodes : List Node) (c : Chosen) → Settled g path d t nodes → IsFirstWide g d c.package →
     c.state ≡ states g c.package → c.mark ≡ length t.notes → IsPath g (path ++ c ∷ []) t.notes
 branch-path g path d t nodes c w f state mark =
     let a = one-more path t.notes c in
@@ -244,7 +244,7 @@ branch-path g path d t nodes c w f state mark =
     }
 
 -- the tasks behind the new choice stand before those that were pending
-branch-pending : (g : Graph) (path : List Chosen) (d : Rows) (t : History) (nodes : List Node) (c : Chosen) → Closed g path d t nodes → c.state ≡ states g c.package → c.mark ≡ length t.notes →
+branch-pending : (g : Graph) (path : List Chosen) (d : Rows) (t : History) (nodes : List Node) (c : Chosen) → Settled g path d t nodes → c.state ≡ states g c.package → c.mark ≡ length t.notes →
     pending g (path ++ c ∷ []) t.notes (length (path ++ c ∷ [])) ≡ behind (prefix_of path) c.package (down (has d c.package) (states g c.package)) ++ pending g path t.notes (length path)
 branch-pending g path d t nodes c w state mark =
     let other = path ++ c ∷ [] in
@@ -260,7 +260,7 @@ branch-pending g path d t nodes c w state mark =
     ∙ ap (λ l. behind (prefix_of path) c.package (down (has d c.package) (states g c.package)) ++ l) (same-pending g path other t.notes t.notes n n (one-more path t.notes c) (omega arith))
 
 -- the branch is what the definition says
-pub branch-visit : (g : Graph) (path : List Chosen) (d : Rows) (t : History) (nodes : List Node) (p : ℕ) (state : Option ℕ) (children : ℕ) → Closed g path d t nodes → IsFirstWide g d p →
+pub branch-visit : (g : Graph) (path : List Chosen) (d : Rows) (t : History) (nodes : List Node) (p : ℕ) (state : Option ℕ) (children : ℕ) → Settled g path d t nodes → IsFirstWide g d p →
     state ≡ entered path (length path) → children ≡ size_of d p →
     Visits g FirstChoice (task_of path) (record { state = state; kind = Branch p children }) (behind (prefix_of path) p (down (has d p) (states g p)))
 branch-visit g path d t nodes p state children w f e count =
@@ -275,7 +275,7 @@ branch-visit g path d t nodes p state children w f e count =
       children_are = refl;
     })
 
-pub branch-left : (g : Graph) (path : List Chosen) (d : Rows) (t : History) (nodes more : List Node) (c : Chosen) (x : Node) → Closed g path d t nodes → IsFirstWide g d c.package →
+pub branch-left : (g : Graph) (path : List Chosen) (d : Rows) (t : History) (nodes more : List Node) (c : Chosen) (x : Node) → Settled g path d t nodes → IsFirstWide g d c.package →
     c.state ≡ states g c.package → c.mark ≡ length t.notes → Visits g FirstChoice (task_of path) x (behind (prefix_of path) c.package (down (has d c.package) (states g c.package))) →
     more ≡ nodes ++ x ∷ [] → Left g (path ++ c ∷ []) d t more
 branch-left g path d t nodes more c x w f state mark v e = record {
@@ -326,8 +326,8 @@ dropped-left g path other notes d t nodes n p long w holds e none cut =
       path_is = record {
         at = λ k h.
             let inside : k < n = omega (arith, h, count) in
-            let before = p.rising k n inside (omega (arith, long)) in
-            same-at g path other notes t.notes n k a inside (omega (arith, before, far)) (p.at k (omega (arith, inside, long)));
+            let choices_before = p.rising k n inside (omega (arith, long)) in
+            same-at g path other notes t.notes n k a inside (omega (arith, choices_before, far)) (p.at k (omega (arith, inside, long)));
         rising = λ k l h b.
             let inside : l < n = omega (arith, b, count) in
             subst (λ (x : Chosen). x.mark ≤ (chosen_at other l).mark) (sym (same-chosen path other notes t.notes n k a (omega (arith, h, inside))))
@@ -337,7 +337,7 @@ dropped-left g path other notes d t nodes n p long w holds e none cut =
             same-taken g path other notes t.notes n k a inside (p.taken k (omega (arith, h, count, long)));
       };
       walks = subst (Walks g FirstChoice (root ∷ []) nodes)
-          (ap (pending g path notes) long ∙ ap (λ xs. behind (before path n) (chosen_at path n).package xs ++ pending g path notes n) rest
+          (ap (pending g path notes) long ∙ ap (λ xs. behind (choices_before path n) (chosen_at path n).package xs ++ pending g path notes n) rest
           ∙ sym (same-pending g path other notes t.notes n n a (omega arith)) ∙ ap (pending g other t.notes) (sym count)) w;
     }
 
@@ -359,24 +359,24 @@ narrowed-between law g prefix f s p j closed cut = record {
 }
 
 -- the next task comes first, and the others of the choice stay behind it
-task-front : (g : Graph) (path other : List Chosen) (notes more : List (ℕ × ℕ)) (n j : ℕ) → prefix_of other ≡ before path n ++ ((chosen_at path n).package, j) ∷ [] → length other ≡ suc n →
-    chosen_at other n ≡ record { «package» = (chosen_at path n).package; state = j; mark = (chosen_at path n).mark } → before other n ≡ before path n →
+task-front : (g : Graph) (path other : List Chosen) (notes more : List (ℕ × ℕ)) (n j : ℕ) → prefix_of other ≡ choices_before path n ++ ((chosen_at path n).package, j) ∷ [] → length other ≡ suc n →
+    chosen_at other n ≡ record { «package» = (chosen_at path n).package; state = j; mark = (chosen_at path n).mark } → choices_before other n ≡ choices_before path n →
     domains_at g other more n ≡ domains_at g path notes n → Agree path other notes more n →
-    (behind (before path n) (chosen_at path n).package (j ∷ down (domains_at g path notes n (chosen_at path n).package) j) ++ pending g path notes n)
+    (behind (choices_before path n) (chosen_at path n).package (j ∷ down (domains_at g path notes n (chosen_at path n).package) j) ++ pending g path notes n)
     ≡ task_of other ∷ pending g other more (length other)
 task-front g path other notes more n j prefix count here front domains a =
     let c = chosen_at path n in
-    let later = behind (before path n) c.package (down (domains_at g path notes n c.package) j) in
-    let first : Task = record { prefix = before path n ++ (c.package, j) ∷ []; state = Some j } in
+    let later = behind (choices_before path n) c.package (down (domains_at g path notes n c.package) j) in
+    let first : Task = record { prefix = choices_before path n ++ (c.package, j) ∷ []; state = Some j } in
     let task : task_of other ≡ first =
     ap (λ z. record { prefix = z; state = entered other (length other) }) prefix
-    ∙ ap (λ z. record { prefix = before path n ++ (c.package, j) ∷ []; state = entered other z }) count
-    ∙ ap (λ (y : Chosen). record { prefix = before path n ++ (c.package, j) ∷ []; state = Some y.state }) here in
+    ∙ ap (λ z. record { prefix = choices_before path n ++ (c.package, j) ∷ []; state = entered other z }) count
+    ∙ ap (λ (y : Chosen). record { prefix = choices_before path n ++ (c.package, j) ∷ []; state = Some y.state }) here in
     let rest : pending g other more (length other) ≡ later ++ pending g path notes n =
     ap (pending g other more) count
     ∙ ap (λ z. behind z (chosen_at other n).package (untried g other more n) ++ pending g other more n) front
-    ∙ ap (λ (y : Chosen). behind (before path n) y.package (down (domains_at g other more n y.package) y.state) ++ pending g other more n) here
-    ∙ ap (λ f. behind (before path n) c.package (down (f c.package) j) ++ pending g other more n) domains
+    ∙ ap (λ (y : Chosen). behind (choices_before path n) y.package (down (domains_at g other more n y.package) y.state) ++ pending g other more n) here
+    ∙ ap (λ f. behind (choices_before path n) c.package (down (f c.package) j) ++ pending g other more n) domains
     ∙ ap (λ l. later ++ l) (same-pending g path other notes more n n a (omega arith)) in
     sym (ap (λ z. z ∷ pending g other more (length other)) task ∙ ap (λ l. first ∷ l) rest)
 
@@ -399,11 +399,11 @@ next-arrived law g path other notes d new t u nodes n j p long w holds e kept ea
       marks = cut-marks g path notes u.notes n p long back;
     } in
     let here : chosen_at other n ≡ x = ap (λ l. get_or l n nothing) changed ∙ get_or-set_same path n x nothing inside in
-    let front : before other n ≡ before path n = same-before path other notes u.notes n n a (omega arith) in
+    let front : choices_before other n ≡ choices_before path n = same-before path other notes u.notes n n a (omega arith) in
     let cut-back : take c.mark u.notes ≡ take c.mark notes = ap (λ k. take k u.notes) (sym size) ∙ back in
     let domains : domains_at g other u.notes n ≡ domains_at g path notes n = ap (λ (y : Chosen). left_by g (take y.mark u.notes)) here ∙ ap (left_by g) cut-back in
-    let closed : IsClosureOf g (under g (before path n)) (has d) = same-family g (under g (before path n)) (domains_at g path notes n) (has d) (undone g path notes d t n holds e) own.closed in
-    let prefix : prefix_of other ≡ before path n ++ (c.package, j) ∷ [] =
+    let closed : IsClosureOf g (under g (choices_before path n)) (has d) = same-family g (under g (choices_before path n)) (domains_at g path notes n) (has d) (undone g path notes d t n holds e) own.closed in
+    let prefix : prefix_of other ≡ choices_before path n ++ (c.package, j) ∷ [] =
     ap prefix_of (sym (take_all (suc n) other (omega (arith, count))) ∙ ap (take (suc n)) changed ∙ take-suc-set path n x inside) ∙ map-append as_pair (take n path) (x ∷ []) in
     let next : untried g path notes n ≡ j ∷ down (domains_at g path notes n c.package) j =
     down-next (domains_at g path notes n c.package) c.state j less (sym (undone g path notes d t n holds e c.package j) ∙ is) (λ i b k. sym (undone g path notes d t n holds e c.package i) ∙ above i b k) in
@@ -414,8 +414,8 @@ next-arrived law g path other notes d new t u nodes n j p long w holds e kept ea
           | inl same ↦ subst (IsChosenAt g other u.notes) (sym same) (record {
             mark = subst (λ (y : Chosen). y.mark ≤ length u.notes) (sym here) far;
             small = subst (λ (y : Chosen). y.state ≤ states g y.package) (sym here) (let s = own.small in omega (arith, s, less));
-            closed = subst (λ y. IsClosureOf g (under g y) (domains_at g other u.notes n)) (sym front) (subst (λ f. IsClosureOf g (under g (before path n)) f) (sym domains) own.closed);
-            undecided = subst (λ y. IsUndecided g y (chosen_at other n).package) (sym front) (subst (λ (y : Chosen). IsUndecided g (before path n) y.package) (sym here) own.undecided);
+            closed = subst (λ y. IsClosureOf g (under g y) (domains_at g other u.notes n)) (sym front) (subst (λ f. IsClosureOf g (under g (choices_before path n)) f) (sym domains) own.closed);
+            undecided = subst (λ y. IsUndecided g y (chosen_at other n).package) (sym front) (subst (λ (y : Chosen). IsUndecided g (choices_before path n) y.package) (sym here) own.undecided);
             least = λ q v b. own.least q (subst (λ y. IsUndecided g y q) front v) (subst (λ (y : Chosen). q < y.package) here b);
           })
           | inr ne ↦
@@ -440,8 +440,8 @@ next-arrived law g path other notes d new t u nodes n j p long w holds e kept ea
           let same : k ≡ n = omega (arith, h, count) in
           subst (λ z. domains_at g other u.notes z (chosen_at other z).package (chosen_at other z).state ≡ true) (sym same)
           (ap (λ f. f (chosen_at other n).package (chosen_at other n).state) domains ∙ ap (λ (y : Chosen). domains_at g path notes n y.package y.state) here ∙ sym (undone g path notes d t n holds e c.package j) ∙ is);
-      between = subst (λ y. LiesBetween g (under g y) (has new)) (sym prefix) (narrowed-between law g (before path n) (has d) (has new) c.package j closed cut);
+      between = subst (λ y. LiesBetween g (under g y) (has new)) (sym prefix) (narrowed-between law g (choices_before path n) (has d) (has new) c.package j closed cut);
       walks = subst (Walks g FirstChoice (root ∷ []) nodes)
-          (ap (pending g path notes) long ∙ ap (λ xs. behind (before path n) c.package xs ++ pending g path notes n) next
+          (ap (pending g path notes) long ∙ ap (λ xs. behind (choices_before path n) c.package xs ++ pending g path notes n) next
           ∙ task-front g path other notes u.notes n j prefix count here front domains a) w;
     }

@@ -16,7 +16,7 @@ use Rattle.refutation_log.specs.Refutes.{Prefix}
 use Rattle.refutation_log.specs.declared.node.Node.{Node}
 use Rattle.decimation_repair.specs.Walk.{Task, Choice, behind, Visits, Walks, IsSolved}
 use Rattle.decimation_repair.specs.Choice.{IsUndecided, FirstChoice}
-use Rattle.decimation_repair.specs.Path.{nothing, chosen_at, prefix_of, before, domains_at, IsChosenAt, down, untried, pending, IsFirstWide}
+use Rattle.decimation_repair.specs.Path.{nothing, chosen_at, prefix_of, choices_before, domains_at, IsChosenAt, down, untried, pending, IsFirstWide}
 use Rattle.decimation_repair.specs.declared.path.Chosen.{Chosen}
 
 -- ---- one task more is visited
@@ -48,7 +48,7 @@ pub record Agree (path other : List Chosen) (notes more : List (ℕ × ℕ)) (n 
 pub same-chosen : (path other : List Chosen) (notes more : List (ℕ × ℕ)) (n d : ℕ) → Agree path other notes more n → d < n → chosen_at other d ≡ chosen_at path d
 same-chosen path other notes more n d a h = sym (get_or-take n other d nothing h) ∙ ap (λ l. get_or l d nothing) a.front ∙ get_or-take n path d nothing h
 
-pub same-before : (path other : List Chosen) (notes more : List (ℕ × ℕ)) (n d : ℕ) → Agree path other notes more n → d ≤ n → before other d ≡ before path d
+pub same-before : (path other : List Chosen) (notes more : List (ℕ × ℕ)) (n d : ℕ) → Agree path other notes more n → d ≤ n → choices_before other d ≡ choices_before path d
 same-before path other notes more n d a h = ap prefix_of (front-less d n path other h a.front)
 
 pub same-domains : (g : Graph) (path other : List Chosen) (notes more : List (ℕ × ℕ)) (n d : ℕ) → Agree path other notes more n → d < n → domains_at g other more d ≡ domains_at g path notes d
@@ -64,9 +64,9 @@ same-pending g path other notes more n (suc d) a h =
     let left = same-domains g path other notes more n d a below in
     let rest = same-pending g path other notes more n d a (omega (arith, h)) in
     ap (λ x. behind x (chosen_at other d).package (untried g other more d) ++ pending g other more d) front
-    ∙ ap (λ c. behind (before path d) c.package (down (domains_at g other more d c.package) c.state) ++ pending g other more d) here
-    ∙ ap (λ f. behind (before path d) (chosen_at path d).package (down (f (chosen_at path d).package) (chosen_at path d).state) ++ pending g other more d) left
-    ∙ ap (λ l. behind (before path d) (chosen_at path d).package (untried g path notes d) ++ l) rest
+    ∙ ap (λ c. behind (choices_before path d) c.package (down (domains_at g other more d c.package) c.state) ++ pending g other more d) here
+    ∙ ap (λ f. behind (choices_before path d) (chosen_at path d).package (down (f (chosen_at path d).package) (chosen_at path d).state) ++ pending g other more d) left
+    ∙ ap (λ l. behind (choices_before path d) (chosen_at path d).package (untried g path notes d) ++ l) rest
 
 pub same-at : (g : Graph) (path other : List Chosen) (notes more : List (ℕ × ℕ)) (n d : ℕ) → Agree path other notes more n → d < n → (chosen_at path d).mark ≤ length more →
     IsChosenAt g path notes d → IsChosenAt g other more d
@@ -77,8 +77,8 @@ same-at g path other notes more n d a h low c =
     record {
       mark = subst (λ x. x.mark ≤ length more) (sym here) low;
       small = subst (λ x. x.state ≤ states g x.package) (sym here) c.small;
-      closed = subst (λ x. IsClosureOf g (under g x) (domains_at g other more d)) (sym front) (subst (λ f. IsClosureOf g (under g (before path d)) f) (sym left) c.closed);
-      undecided = subst (λ x. IsUndecided g x (chosen_at other d).package) (sym front) (subst (λ x. IsUndecided g (before path d) x.package) (sym here) c.undecided);
+      closed = subst (λ x. IsClosureOf g (under g x) (domains_at g other more d)) (sym front) (subst (λ f. IsClosureOf g (under g (choices_before path d)) f) (sym left) c.closed);
+      undecided = subst (λ x. IsUndecided g x (chosen_at other d).package) (sym front) (subst (λ x. IsUndecided g (choices_before path d) x.package) (sym here) c.undecided);
       least = λ q u b. c.least q (subst (λ x. IsUndecided g x q) front u) (subst (λ x. q < x.package) here b);
     }
 

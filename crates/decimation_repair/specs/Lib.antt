@@ -3,3 +3,4 @@ pub mod Choice
 pub mod Laws
 pub mod Path
 pub mod Standing
+pub mod Sought

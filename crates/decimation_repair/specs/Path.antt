@@ -23,9 +23,9 @@ chosen_at path d = slice_index_or path d nothing
 abbrev pub prefix_of : List Chosen → Prefix
 prefix_of path = map (λ c. (c.package, c.state)) path
 
--- the choices before a depth
-abbrev pub before : List Chosen → ℕ → Prefix
-before path d = prefix_of (take d path)
+-- the choices that come before a depth
+abbrev pub choices_before : List Chosen → ℕ → Prefix
+choices_before path d = prefix_of (take d path)
 
 -- the domains before the choice at a depth, by the notes
 abbrev pub domains_at : Graph → List Chosen → List (ℕ × ℕ) → ℕ → Family
@@ -35,9 +35,9 @@ domains_at g path notes d = left_by g (take (chosen_at path d).mark notes)
 pub record IsChosenAt (g : Graph) (path : List Chosen) (notes : List (ℕ × ℕ)) (d : ℕ) : Type 0 where
   pub mark : (chosen_at path d).mark ≤ length notes
   pub small : (chosen_at path d).state ≤ states g (chosen_at path d).package
-  pub closed : IsClosureOf g (under g (before path d)) (domains_at g path notes d)
-  pub undecided : IsUndecided g (before path d) (chosen_at path d).package
-  pub least : (q : ℕ) → IsUndecided g (before path d) q → (q < (chosen_at path d).package → ⊥)
+  pub closed : IsClosureOf g (under g (choices_before path d)) (domains_at g path notes d)
+  pub undecided : IsUndecided g (choices_before path d) (chosen_at path d).package
+  pub least : (q : ℕ) → IsUndecided g (choices_before path d) q → (q < (chosen_at path d).package → ⊥)
 
 -- each choice was rightly made, marks don't fall, and each but the last took a closed state
 pub record IsPath (g : Graph) (path : List Chosen) (notes : List (ℕ × ℕ)) : Type 0 where
@@ -57,7 +57,7 @@ untried g path notes d = down (domains_at g path notes d (chosen_at path d).pack
 -- the tasks still to be visited, those behind the deepest choice first
 abbrev pub pending : Graph → List Chosen → List (ℕ × ℕ) → ℕ → List Task
 pending g path notes zero = []
-pending g path notes (suc d) = behind (before path d) (chosen_at path d).package (untried g path notes d) ++ pending g path notes d
+pending g path notes (suc d) = behind (choices_before path d) (chosen_at path d).package (untried g path notes d) ++ pending g path notes d
 
 -- the state by which the task is entered that has so many choices
 abbrev pub entered : List Chosen → ℕ → Option ℕ
@@ -77,7 +77,7 @@ pub record Arrived (g : Graph) (path : List Chosen) (d : Rows) (t : History) (no
   pub walks : Walks g FirstChoice (root ∷ []) nodes (task_of path ∷ pending g path t.notes (length path))
 
 -- the same, and the domains are closed and filled
-pub record Closed (g : Graph) (path : List Chosen) (d : Rows) (t : History) (nodes : List Node) : Type 0 where
+pub record Settled (g : Graph) (path : List Chosen) (d : Rows) (t : History) (nodes : List Node) : Type 0 where
   pub holds : Holds g d t
   pub path_is : IsPath g path t.notes
   pub last : (e : ℕ) → e + 1 ≡ length path → domains_at g path t.notes e (chosen_at path e).package (chosen_at path e).state ≡ true

@@ -3,15 +3,15 @@ use Rattle.std.specs.Prelude.{◌≡◌, ℕ, ◌+◌, ◌≤◌, [], length, ve
 use Rattle.version_graph.specs.Graph.{Graph, packages}
 use Rattle.decimation_repair.specs.Walk.{Finds, Ends, Spends}
 use Rattle.decimation_repair.specs.Choice.{FirstChoice}
-use Rattle.decimation_repair.specs.Path.{Arrived, Closed, Dead, Left}
-use Rattle.decimation_repair.specs.declared.search.Search.{Search}
+use Rattle.decimation_repair.specs.Path.{Arrived, Settled, Dead, Left}
+use Rattle.decimation_repair.specs.declared.walker.Walker.{Walker}
 use Rattle.decimation_repair.specs.declared.search.Outcome.{Outcome}
 use Rattle.decimation_repair.specs.declared.search.Outcome.TheVariants.{Found, Empty, Spent}
-use Rattle.decimation_repair.specs.declared.search.Visited.{Visited}
-use Rattle.decimation_repair.specs.declared.search.Visited.TheVariants.{Solved, Full, Logged}
+use Rattle.decimation_repair.specs.declared.walker.Visited.{Visited}
+use Rattle.decimation_repair.specs.declared.walker.Visited.TheVariants.{Solved, Full, Logged}
 
 -- there is room for a choice of each package, for a state of each, and for as many nodes as the budget allows
-pub record IsReady (g : Graph) (s : Search) : Type 0 where
+pub record IsReady (g : Graph) (s : Walker) : Type 0 where
   pub path : packages g ≤ vec_capacity s.path
   pub within : length s.log.items ≤ s.budget
   pub nodes : s.budget ≤ length s.log.items + s.log.spare
@@ -19,43 +19,43 @@ pub record IsReady (g : Graph) (s : Search) : Type 0 where
   pub states : packages g ≤ s.states.spare
 
 -- the search stands at a task
-pub record IsAt (s : Search) : Type 0 where
+pub record IsAt (s : Walker) : Type 0 where
   pub ready : IsReady s.instance.now s
   pub arrived : Arrived s.instance.now s.path.items s.domains s.trail s.log.items
 
 -- the search stands at a task whose domains are closed and filled
-pub record IsOpenAt (s : Search) : Type 0 where
+pub record IsOpenAt (s : Walker) : Type 0 where
   pub ready : IsReady s.instance.now s
-  pub closed : Closed s.instance.now s.path.items s.domains s.trail s.log.items
+  pub closed : Settled s.instance.now s.path.items s.domains s.trail s.log.items
 
 -- the search stands at a dead end
-pub record IsDeadAt (s : Search) : Type 0 where
+pub record IsDeadAt (s : Walker) : Type 0 where
   pub ready : IsReady s.instance.now s
   pub dead : Dead s.instance.now s.path.items s.domains s.trail s.log.items
 
 -- the search has left a task
-pub record HasLeft (s : Search) : Type 0 where
+pub record HasLeft (s : Walker) : Type 0 where
   pub ready : IsReady s.instance.now s
   pub left : Left s.instance.now s.path.items s.domains s.trail s.log.items
 
 -- the instance and the budget are as before
-pub record SameSearch (old new : Search) : Type 0 where
+pub record SameSearch (old new : Walker) : Type 0 where
   pub instance : new.instance.now ≡ old.instance.now
   pub budget : new.budget ≡ old.budget
 
 -- one node more is logged
-pub record LogsOne (old new : Search) : Type 0 where
+pub record LogsOne (old new : Walker) : Type 0 where
   pub left : HasLeft new
   pub more : length new.log.items ≡ length old.log.items + 1
 
 -- what visiting a task gives
-abbrev pub GivesVisit : Search → Search → Visited → Type 0
+abbrev pub GivesVisit : Walker → Walker → Visited → Type 0
 GivesVisit old new Solved = Finds old.instance.now FirstChoice old.budget new.states.items new.log.items
 GivesVisit old new Full = Spends old.instance.now FirstChoice old.budget new.log.items
 GivesVisit old new Logged = LogsOne old new
 
 -- the same search with one choice fewer
-pub record DropsOne (old new : Search) : Type 0 where
+pub record DropsOne (old new : Walker) : Type 0 where
   pub left : HasLeft new
   pub shorter : length new.path.items + 1 ≡ length old.path.items
 

@@ -1,7 +1,7 @@
 use Rattle.std.proofs.Common.{length}
 use Rattle.decimation_repair.specs.Path.{task_of, pending, prefix_of}
 use Rattle.decimation_repair.proofs.StandLemmas.{solved-here, some-left}
-use Rattle.decimation_repair.proofs.search.Search.solve.Goals as goal
+use Rattle.decimation_repair.proofs.walker.Walker.solve.Goals as goal
 
 pub tell_states-requires-clause-filled : goal.tell_states-requires-clause-filled
 tell_states-requires-clause-filled c = λ p known.

@@ -1,7 +1,7 @@
 use Rattle.std.proofs.Common.{◌≡◌, ◌+◌, ◌<◌, ◌≤◌, ℕ, true, length, get_or}
 use Rattle.version_graph.specs.Graph.{packages}
 use Rattle.version_graph.specs.Domain.{has}
-use Rattle.decimation_repair.proofs.board.tell_states.Given as goal
+use Rattle.decimation_repair.proofs.deciding.tell_states.Given as goal
 
 abbrev pub invariant-loop-p : goal.invariant-loop-p
 invariant-loop-p l = record {

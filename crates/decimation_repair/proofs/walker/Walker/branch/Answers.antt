@@ -7,7 +7,7 @@ use Rattle.decimation_repair.specs.Choice.{FirstChoice}
 use Rattle.decimation_repair.specs.Path.{task_of, pending, entered, prefix_of, down, Left}
 use Rattle.decimation_repair.proofs.StandLemmas.{undecided-here}
 use Rattle.decimation_repair.proofs.MoveLemmas.{room-for, branch-visit, branch-left}
-use Rattle.decimation_repair.proofs.search.Search.branch.Goals as goal
+use Rattle.decimation_repair.proofs.walker.Walker.branch.Goals as goal
 
 pub append-requires : goal.append-requires
 append-requires c =

@@ -4,7 +4,7 @@ use Rattle.decimation_repair.specs.Walk.{IsDead, root, dead, Walks}
 use Rattle.decimation_repair.specs.Choice.{FirstChoice}
 use Rattle.decimation_repair.specs.Path.{task_of, pending, entered}
 use Rattle.decimation_repair.proofs.StandLemmas.{walks-more}
-use Rattle.decimation_repair.proofs.search.Search.leaf.Goals as goal
+use Rattle.decimation_repair.proofs.walker.Walker.leaf.Goals as goal
 
 pub returns-then-note-clause-gives : goal.returns-then-note-clause-gives
 returns-then-note-clause-gives c =

@@ -1,5 +1,5 @@
 use Rattle.decimation_repair.proofs.MoveLemmas.{closed-arrived, dead-arrived}
-use Rattle.decimation_repair.proofs.search.Search.visit.Goals as goal
+use Rattle.decimation_repair.proofs.walker.Walker.visit.Goals as goal
 
 pub leaf-requires : goal.leaf-requires
 leaf-requires c =

@@ -1,6 +1,6 @@
 use Rattle.std.proofs.Common.{◌≡◌, length}
 use Rattle.decimation_repair.specs.Standing.{HasLeft, SameSearch}
-use Rattle.decimation_repair.proofs.search.Search.advance.Given as goal
+use Rattle.decimation_repair.proofs.walker.Walker.advance.Given as goal
 
 abbrev pub invariant-loop-self : goal.invariant-loop-self
 invariant-loop-self l = record {

@@ -5,7 +5,7 @@ use Rattle.version_graph.specs.Family.{narrowed}
 use Rattle.decimation_repair.specs.Path.{chosen_at}
 use Rattle.decimation_repair.specs.declared.path.Chosen.{Chosen}
 use Rattle.decimation_repair.proofs.MoveLemmas.{next-arrived, dropped-left}
-use Rattle.decimation_repair.proofs.search.Search.retry.Goals as goal
+use Rattle.decimation_repair.proofs.walker.Walker.retry.Goals as goal
 
 pub returns-in-Some-clause-next : goal.returns-in-Some-clause-next
 returns-in-Some-clause-next c =

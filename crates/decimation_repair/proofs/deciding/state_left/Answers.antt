@@ -1,6 +1,6 @@
 use Rattle.std.proofs.Common.{arith}
 use Rattle.version_graph.proofs.RowLemmas.{has_known}
-use Rattle.decimation_repair.proofs.board.state_left.Goals as goal
+use Rattle.decimation_repair.proofs.deciding.state_left.Goals as goal
 
 pub unreachable-requires : goal.unreachable-requires
 unreachable-requires c =

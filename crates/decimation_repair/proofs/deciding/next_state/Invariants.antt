@@ -1,6 +1,6 @@
 use Rattle.std.proofs.Common.{◌≡◌, ◌<◌, ◌≤◌, ℕ, false}
 use Rattle.version_graph.specs.Domain.{has}
-use Rattle.decimation_repair.proofs.board.next_state.Given as goal
+use Rattle.decimation_repair.proofs.deciding.next_state.Given as goal
 
 abbrev pub invariant-loop-j : goal.invariant-loop-j
 invariant-loop-j l = record {
