@@ -79,7 +79,9 @@ class Watch:
             found = process(pid)
             if found and self.is_below(pid, found[2]):
                 self.took[pid] = max(found[3], self.took.get(pid, 0))
-                self.jobs[pid] = job_of(*found[:2]) or self.jobs.get(pid)
+                above = self.jobs.get(str(found[2]))
+                # (what a check or a program starts works for the same job)
+                self.jobs[pid] = above or job_of(*found[:2]) or self.jobs.get(pid)
 
     def is_below(self, pid, parent):
         self.parents[pid] = str(parent)
