@@ -5,3 +5,4 @@ pub mod ListLemmas
 pub mod RowLemmas
 pub mod TrailLemmas
 pub mod PartLemmas
+pub mod LinkLemmas

@@ -8,6 +8,7 @@ mod domain;
 mod fault;
 mod graph;
 mod laws;
+mod links;
 mod needs;
 mod restricting;
 mod state_map;
