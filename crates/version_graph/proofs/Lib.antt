@@ -6,3 +6,4 @@ pub mod RowLemmas
 pub mod TrailLemmas
 pub mod PartLemmas
 pub mod LinkLemmas
+pub mod SumLemmas

@@ -8,6 +8,7 @@ mod domain;
 mod fault;
 mod graph;
 mod laws;
+mod linking;
 mod links;
 mod needs;
 mod restricting;
