@@ -1,15 +1,15 @@
 -- What a trail tells of the domains that it holds, and what closing them leaves.
-use Rattle.std.proofs.Common.{◌≡◌, ℕ, ◌<◌, ◌≤◌, Bool, true, false, not, ◌&&◌, ◌||◌, ◌==◌, nat_lt, List, [], length, take, sym, ap, refl, ◌∙◌, arith}
-use Rattle.std.proofs.lemmas.Bool.{and_parts, both_ways, eqb-true, eq-eqb, false_from_ne_true, lt-ltb, ltb-true}
+use Rattle.std.proofs.Common.{◌≡◌, ℕ, ◌≤◌, Bool, true, false, List, [], length, take, sym, ap, refl, ◌∙◌, arith}
+use Rattle.std.proofs.lemmas.Bool.{and_from}
 use Rattle.std.proofs.lemmas.List.{length-take, take-take}
-use Rattle.version_graph.specs.Graph.{Graph, states, is_offered}
-use Rattle.version_graph.specs.Family.{Family, InClosure, LiesBetween, HasEmpty, narrowed, under}
+use Rattle.version_graph.specs.Graph.{Graph, is_offered}
+use Rattle.version_graph.specs.Family.{Family, InClosure, LiesBetween, HasEmpty, under}
 use Rattle.version_graph.specs.Domain.{Rows, has}
 use Rattle.version_graph.specs.Noted.{History, Holds, left_by, is_noted}
 use Rattle.graph_pruning.specs.Closing.{IsClosedFrom}
 use Rattle.refutation_log.specs.Found.{IsClosed, IsSettledAs}
 use Rattle.version_graph.proofs.FamilyLemmas.{below_within, same_closure}
-use Rattle.version_graph.proofs.TrailLemmas.{offered_known, held_offered}
+use Rattle.version_graph.proofs.TrailLemmas.{held_offered}
 use Rattle.refutation_log.proofs.Below.{empty_below}
 
 -- equal notes leave equal domains
@@ -38,17 +38,10 @@ earlier_trans a b c h k =
     let le : length a ≤ length b = omega (arith, len, length-take (length a) b) in
     sym (take-take (length a) (length b) c le) ∙ ap (take (length a)) k ∙ h
 
--- the domain of a package that lacks a state, with its states crossed off
-pub cut_to_nothing : (g : Graph) (d : Rows) (t : History) (p i : ℕ) → Holds g d t → has d p i ≡ false → (q j : ℕ) → has d q j && not (q == p && nat_lt j (states g p)) ≡ narrowed (has d) p i q j
-cut_to_nothing g d t p i h lacks q j = go (q == p) (has d q j) refl refl
-  where
-    go : (b c : Bool) → q == p ≡ b → has d q j ≡ c → c && not (b && nat_lt j (states g p)) ≡ c && (not b || (j == i))
-    go b false same here = refl
-    go false true same here = refl
-    go true true same here =
-        let there : has d p j ≡ true = let at : q ≡ p = eqb-true _ _ same in rw at at here in
-        let below = (offered_known g p j (held_offered g d t h p j there)).state in
-        ap not (lt-ltb _ _ below) ∙ sym (false_from_ne_true _ (λ e. let at : j ≡ i = eqb-true _ _ e in both_ways _ lacks (rw at at there)))
+-- what is closed in domains that a trail holds is closed where nothing is chosen
+pub closed_unchosen : (g : Graph) (d : Rows) (t : History) (p i : ℕ) → Holds g d t → InClosure g (has d) p i → InClosure g (under g []) p i
+closed_unchosen g d t p i h k =
+    (below_within g (has d) (under g []) (record { at = λ q j here. and_from (is_offered g q j) true (held_offered g d t h q j here) refl })).below p i k
 
 pub settled_open : (g : Graph) (f : Family) (b : Bool) → b ≡ true → IsSettledAs g f b → IsClosed g f
 settled_open g f true e s = s

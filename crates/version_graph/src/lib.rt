@@ -13,8 +13,6 @@ mod links;
 mod needs;
 mod restricting;
 mod state_map;
-#[cfg(test)]
-mod tests;
 mod trail;
 
 pub use building::InstanceBuilder;
