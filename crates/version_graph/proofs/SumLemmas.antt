@@ -1,10 +1,8 @@
 -- Sums over the neighbours of a package.
-use Rattle.std.proofs.Common.{◌≡◌, ◌≢◌, ℕ, zero, suc, ◌+◌, ◌*◌, ◌^◌, ◌<◌, ◌≤◌, Bool, true, false, cond, List, length, get_or, refl, sym, ◌∙◌, ap, subst, arith, inl, inr, ltb}
-use Rattle.std.specs.List.{Contains}
-use Rattle.std.specs.List.Sorted.{IsStrictlyIncreasing}
+use Rattle.std.proofs.Common.{◌≡◌, ℕ, zero, suc, ◌+◌, ◌*◌, ◌^◌, ◌<◌, ◌≤◌, true, false, cond, List, length, get_or, refl, sym, ◌∙◌, ap, arith, inl, inr, ltb}
 use Rattle.std.proofs.lemmas.Bool.{cases_lt, cases_order, cases_Bool, lt-ltb, le-ltb}
 use Rattle.std.proofs.lemmas.Grind.{get_or_default_zero}
-use Rattle.version_graph.specs.Graph.{Graph, packages, states, are_neighbours, share, sum_below, IsListOf}
+use Rattle.version_graph.specs.Graph.{Graph, states, are_neighbours, share, sum_below, IsListOf}
 use Rattle.version_graph.proofs.GraphLemmas.{increasing-ordered}
 
 -- where f adds nothing between a and b

@@ -1,10 +1,9 @@
 -- What a package has to do with its neighbours: for each neighbour a table with a row for each state of the package, and in
 -- it a place for each state of the neighbour, that is true where the two states are allowed together.
-use Rattle.std.specs.Prelude.{◌≡◌, ℕ, ◌<◌, Bool, true, false, not, ◌&&◌, ◌||◌, ◌==◌, List, [], length, slice_index, slice_index_or}
-use Rattle.std.specs.List.{list_any}
+use Rattle.std.specs.Prelude.{◌≡◌, ℕ, ◌<◌, Bool, true, not, ◌&&◌, ◌==◌, List, [], length, slice_index, slice_index_or}
 use Rattle.std.specs.List.Sorted.{IsStrictlyIncreasing}
 use Rattle.bit_rows.specs.Rows.{row_at, truth_at}
-use Rattle.version_graph.specs.Graph.{Graph, packages, states, is_forbidden}
+use Rattle.version_graph.specs.Graph.{Graph, states, is_forbidden}
 
 abbrev pub Table : Type 0
 Table = List (List Bool)

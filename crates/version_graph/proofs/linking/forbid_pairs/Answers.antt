@@ -1,7 +1,4 @@
-use Rattle.std.proofs.Common.{◌<◌, ℕ, length}
-use Rattle.version_graph.specs.Stored.{pair_at}
-use Rattle.version_graph.specs.Links.{link_at, number_at, table_at, IsInTable, CanForbid}
-use Rattle.version_graph.proofs.LinkLemmas.{can_still, forbids_start, forbids_more}
+use Rattle.version_graph.proofs.LinkLemmas.{forbids_start, forbids_more}
 use Rattle.version_graph.proofs.linking.forbid_pairs.Goals as goal
 
 pub loop-pair-init : goal.loop-pair-init

@@ -1,5 +1,4 @@
-use Rattle.std.proofs.Common.{◌≡◌, ◌∙◌, ◌∷◌, ◌+◌, ◌<◌, [], ℕ, List, ap, sym, subst, arith, length, length-append, get_or}
-use Rattle.std.proofs.lemmas.List.{length-map}
+use Rattle.std.proofs.Common.{◌≡◌, ◌∙◌, ◌∷◌, ◌<◌, [], ℕ, List, ap, sym, subst, arith, length, length-append, get_or}
 use Rattle.std.specs.List.Sorted.{IsStrictlyIncreasing}
 use Rattle.version_graph.specs.Stored.{rows_of}
 use Rattle.version_graph.specs.Links.{Linked, IsFree}

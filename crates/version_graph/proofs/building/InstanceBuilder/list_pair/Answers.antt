@@ -1,4 +1,4 @@
-use Rattle.std.proofs.Common.{◌≡◌, ◌∙◌, ◌<◌, ◌||◌, ap, sym, subst, ℕ}
+use Rattle.std.proofs.Common.{◌∙◌, ◌<◌, ◌||◌, ap, sym, subst}
 use Rattle.version_graph.specs.Graph.{Graph, packages, states, is_barred, has_pair, is_key}
 use Rattle.version_graph.proofs.BuildLemmas.{pair-added, pair-kept, same-barred}
 use Rattle.version_graph.proofs.building.InstanceBuilder.list_pair.Goals as goal

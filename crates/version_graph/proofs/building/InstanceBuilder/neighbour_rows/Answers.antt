@@ -1,5 +1,5 @@
-use Rattle.std.proofs.Common.{◌≡◌, ◌∙◌, ap, sym, subst, length, arith}
-use Rattle.version_graph.specs.Graph.{Graph, packages}
+use Rattle.std.proofs.Common.{◌∙◌, sym, subst, length}
+use Rattle.version_graph.specs.Graph.{Graph}
 use Rattle.version_graph.specs.Stored.{rows_of, graph_of, AreBelow, AreLinked, AreNeighbourRows}
 use Rattle.version_graph.proofs.GraphLemmas.{below-from, rows-from_linked}
 use Rattle.version_graph.proofs.PartLemmas.{if-ok}

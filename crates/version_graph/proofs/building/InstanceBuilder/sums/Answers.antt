@@ -1,5 +1,4 @@
-use Rattle.std.proofs.Common.{◌≡◌, ◌∙◌, ◌<◌, ap, sym, subst, arith, length, get_or, [], ℕ}
-use Rattle.std.proofs.lemmas.List.{length-map}
+use Rattle.std.proofs.Common.{◌≡◌, ◌∙◌, ◌<◌, sym, subst, arith, length, get_or, [], ℕ}
 use Rattle.version_graph.specs.Graph.{packages, are_neighbours, IsListOf}
 use Rattle.version_graph.specs.Stored.{rows_of}
 use Rattle.version_graph.proofs.RowLemmas.{row-read}

@@ -1,5 +1,5 @@
-use Rattle.std.proofs.Common.{◌≡◌, ◌∙◌, ◌<◌, ap, sym, subst, arith, length}
-use Rattle.version_graph.proofs.SumLemmas.{SumsTo, sums_start, sums_more, sums_end}
+use Rattle.std.proofs.Common.{arith}
+use Rattle.version_graph.proofs.SumLemmas.{sums_start, sums_more, sums_end}
 use Rattle.version_graph.proofs.building.InstanceBuilder.sums_of.Goals as goal
 
 pub loop-q-init : goal.loop-q-init

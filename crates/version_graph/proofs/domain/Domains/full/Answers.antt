@@ -1,4 +1,4 @@
-use Rattle.std.proofs.Common.{◌≡◌, ◌∙◌, arith, length}
+use Rattle.std.proofs.Common.{◌≡◌, ◌∙◌, arith}
 use Rattle.version_graph.proofs.RowLemmas.{rows-offered, counted-from}
 use Rattle.version_graph.proofs.TrailLemmas.{fresh-holds}
 use Rattle.version_graph.specs.Graph.{packages}

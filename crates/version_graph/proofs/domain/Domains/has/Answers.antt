@@ -1,4 +1,4 @@
-use Rattle.std.proofs.Common.{◌≡◌, ◌∙◌, ◌<◌, length, get_or, ap, sym, arith, []}
+use Rattle.std.proofs.Common.{◌∙◌, length, ap, arith, []}
 use Rattle.std.proofs.lemmas.List.{get_or_read}
 use Rattle.bit_rows.specs.Rows.{truth_at}
 use Rattle.version_graph.specs.Domain.{has, row}

@@ -1,7 +1,7 @@
-use Rattle.std.proofs.Common.{◌≡◌, ◌∙◌, ◌<◌, ◌+◌, ◌-◌, ℕ, cond, ap, sym, subst, set, arith, length, get_or, true, false, [], refl}
+use Rattle.std.proofs.Common.{◌≡◌, ◌∙◌, ◌+◌, ◌-◌, ℕ, cond, ap, sym, subst, set, arith, length, get_or, true, false, []}
 use Rattle.std.proofs.lemmas.List.{get_or_read}
-use Rattle.version_graph.specs.Domain.{Rows, has, row, size_of, AreCounted}
-use Rattle.version_graph.proofs.RowLemmas.{has_known, size_some, size_less, counted-written}
+use Rattle.version_graph.specs.Domain.{has, row, AreCounted}
+use Rattle.version_graph.proofs.RowLemmas.{has_known, size_some, counted-written}
 use Rattle.version_graph.proofs.domain.Domains.remove.Goals as goal
 
 pub index_mut-requires : goal.index_mut-requires

@@ -1,7 +1,7 @@
-use Rattle.std.proofs.Common.{◌≡◌, ◌∙◌, ◌<◌, ◌+◌, ◌-◌, ℕ, cond, ap, sym, subst, set, arith, length, get_or, true, false, [], refl}
+use Rattle.std.proofs.Common.{◌≡◌, ◌∙◌, ◌<◌, ◌+◌, ℕ, cond, ap, sym, subst, set, arith, length, get_or, true, false, []}
 use Rattle.std.proofs.lemmas.List.{get_or_read}
-use Rattle.version_graph.specs.Domain.{Rows, has, row, size_of, AreCounted}
-use Rattle.version_graph.proofs.RowLemmas.{has_known, size_some, size_less, counted-written}
+use Rattle.version_graph.specs.Domain.{has, row, AreCounted}
+use Rattle.version_graph.proofs.RowLemmas.{size_less, counted-written}
 use Rattle.version_graph.proofs.domain.Domains.restore.Goals as goal
 
 pub overflow_add-index_mut : goal.overflow_add-index_mut

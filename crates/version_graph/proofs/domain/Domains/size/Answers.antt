@@ -1,6 +1,5 @@
-use Rattle.std.proofs.Common.{◌≡◌, ◌∙◌, ap, sym, arith, length}
-use Rattle.std.proofs.lemmas.List.{get_or_read}
-use Rattle.version_graph.specs.Domain.{Rows, has, row, size_of, AreCounted}
+use Rattle.std.proofs.Common.{◌∙◌, sym, arith}
+use Rattle.version_graph.specs.Domain.{has, row, size_of}
 use Rattle.version_graph.proofs.RowLemmas.{none_true, some_true, size_read}
 use Rattle.version_graph.proofs.domain.Domains.size.Goals as goal
 

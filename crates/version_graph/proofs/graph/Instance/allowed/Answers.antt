@@ -1,5 +1,5 @@
-use Rattle.std.proofs.Common.{◌≡◌, ◌∙◌, ◌<◌, ℕ, ap, sym, subst, arith, length, get_or}
-use Rattle.version_graph.specs.Graph.{Graph, packages, states, are_neighbours, is_forbidden, IsListOf, IsGraph}
+use Rattle.std.proofs.Common.{subst}
+use Rattle.version_graph.specs.Graph.{Graph}
 use Rattle.version_graph.specs.Stored.{IsStored}
 use Rattle.version_graph.proofs.LinkLemmas.{link_fits, allowed_told}
 use Rattle.version_graph.proofs.graph.Instance.allowed.Goals as goal

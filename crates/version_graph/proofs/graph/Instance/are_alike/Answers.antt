@@ -1,5 +1,5 @@
-use Rattle.std.proofs.Common.{◌≡◌, ◌∙◌, ◌<◌, ℕ, ap, sym, subst, arith, length, get_or}
-use Rattle.version_graph.specs.Graph.{Graph, packages, states, are_neighbours, is_forbidden, IsListOf, IsGraph}
+use Rattle.std.proofs.Common.{◌∙◌, ap, sym, subst, length}
+use Rattle.version_graph.specs.Graph.{Graph}
 use Rattle.version_graph.specs.Stored.{IsStored}
 use Rattle.bit_rows.specs.Rows.{row_at, agree_under}
 use Rattle.version_graph.specs.Links.{table_at}

@@ -1,5 +1,5 @@
-use Rattle.std.proofs.Common.{◌≡◌, ◌∙◌, ◌<◌, ℕ, ap, sym, subst, arith, length, get_or}
-use Rattle.version_graph.specs.Graph.{Graph, packages, states, are_neighbours, is_forbidden, IsListOf, IsGraph}
+use Rattle.std.proofs.Common.{sym, subst, get_or}
+use Rattle.version_graph.specs.Graph.{Graph, are_neighbours, IsListOf, IsGraph}
 use Rattle.version_graph.specs.Stored.{IsStored}
 use Rattle.version_graph.proofs.GraphLemmas.{graph-from, forbidden_from_neighbours, neighbours_from_forbidden}
 use Rattle.version_graph.proofs.LinkLemmas.{link_list}

@@ -1,7 +1,7 @@
 use Rattle.std.proofs.Common.{◌≡◌, ◌∙◌, ◌<◌, ℕ, ap, subst, sym, List, length, get_or, Ok, Err}
 use Rattle.std.specs.List.Sorted.{IsStrictlyIncreasing}
 use Rattle.std.proofs.lemmas.List.Sorted.{searched}
-use Rattle.version_graph.specs.Links.{Linked, number_at}
+use Rattle.version_graph.specs.Links.{Linked}
 use Rattle.version_graph.specs.Stored.{includes}
 use Rattle.version_graph.proofs.GraphLemmas.{increasing-ordered}
 use Rattle.version_graph.proofs.LinkLemmas.{not_there}
