@@ -1,19 +1,19 @@
 -- What forbidding a state or a pair does to the parts of an instance that is being made.
-use Rattle.std.proofs.Common.{◌≡◌, ℕ, zero, suc, ◌<◌, ◌≤◌, Bool, true, false, cond, ◌&&◌, ◌||◌, List, [], length, get_or, set, refl, sym, ◌∙◌, ap, arith, inl, inr, eqb, ltb, sum, replicate}
+use Rattle.std.proofs.Common.{◌≡◌, ℕ, zero, suc, ◌<◌, ◌≤◌, Bool, true, false, cond, ◌&&◌, ◌||◌, List, [], ◌∷◌, ◌++◌, length, get_or, set, refl, sym, ◌∙◌, ap, arith, inl, inr, eqb, ltb, sum, replicate}
 use Rattle.std.proofs.Common.{Result, Ok, Err, OnOk, is_ok}
 use Rattle.std.proofs.lemmas.List.{length-replicate}
-use Rattle.std.specs.Ordering.{is_eq}
 use Rattle.std.specs.List.{list_any}
 use Rattle.std.specs.declared.vec.Vec.{Vec}
 use Rattle.std.proofs.lemmas.Bool.{cases_lt, eqb-true, and_parts, or_cases, cases_Bool}
 use Rattle.std.proofs.lemmas.Bool.Decides.{eqb_tells}
 use Rattle.std.proofs.lemmas.List.{length-set, length-map, get_or_past}
+use Rattle.std.proofs.lemmas.List.Folds.{list_any-append}
 use Rattle.version_graph.specs.Graph.{Graph, is_barred, has_pair, is_forbidden, is_key, is_state, IsOpen}
 use Rattle.version_graph.specs.Stored.{rows_of, graph_of, IsKept}
 use Rattle.version_graph.specs.Domain.{has}
 use Rattle.version_graph.proofs.RowLemmas.{written, rows-written, row-written, has-written}
 use Rattle.version_graph.proofs.TrailLemmas.{or-flipped}
-use Rattle.version_graph.proofs.GraphLemmas.{Key, key_cmp, key_same, contains-pair, forbidden-below, forbidden-above}
+use Rattle.version_graph.proofs.GraphLemmas.{Key, eqb-sym, forbidden-below, forbidden-above}
 
 module _ {Z : Type 0} (sizes : List ℕ) (barred : List (Vec Bool Z)) (pairs : List Key) (k : IsKept (graph_of sizes barred pairs) barred)
     (p i : ℕ) (known : p < length sizes) (v w : Vec Bool Z) (at : v ≡ get_or barred p v) (new : w.items ≡ set v.items i true) where
@@ -53,19 +53,22 @@ pub same-barred : {Z : Type 0} (sizes : List ℕ) (barred : List (Vec Bool Z)) (
 unfolding is_barred
 same-barred sizes barred pairs more a b = refl
 
-or-cond : (a b : Bool) → cond a true b ≡ (b || a)
-or-cond a b = or-flipped a b
+-- a pair is named in its order
+pub key-turned : (p i q j a b c d : ℕ) → ((eqb p a && eqb i b) && (eqb q c && eqb j d)) ≡ is_key a b c d p i q j
+key-turned p i q j a b c d = λ k. (eqb-sym p a k && eqb-sym i b k) && (eqb-sym q c k && eqb-sym j d k)
 
--- the set has the pair besides
-pub pair-added : {Z : Type 0} (sizes : List ℕ) (barred : List (Vec Bool Z)) (pairs more : List Key) (p i q j : ℕ) →
-    ((x : Key) → list_any (λ k. is_eq (key_cmp x k)) more ≡ cond (is_eq (key_cmp (p, i, q, j) x)) true (list_any (λ k. is_eq (key_cmp x k)) pairs)) →
+or-none : (a : Bool) → (a || false) ≡ a
+or-none true = refl
+or-none false = refl
+
+-- the list has the pair besides
+pub pair-added : {Z : Type 0} (sizes : List ℕ) (barred : List (Vec Bool Z)) (pairs more : List Key) (p i q j : ℕ) → more ≡ pairs ++ (p, i, q, j) ∷ [] →
     (a b c d : ℕ) → has_pair (graph_of sizes barred more) a b c d ≡ (has_pair (graph_of sizes barred pairs) a b c d || is_key a b c d p i q j)
+unfolding has_pair
 pair-added sizes barred pairs more p i q j e a b c d =
-    sym (contains-pair (graph_of sizes barred more) a b c d)
-    ∙ e (a, b, c, d)
-    ∙ or-cond (is_eq (key_cmp (p, i, q, j) (a, b, c, d))) _
-    ∙ ap (λ x. x || is_eq (key_cmp (p, i, q, j) (a, b, c, d))) (contains-pair (graph_of sizes barred pairs) a b c d)
-    ∙ ap (λ x. has_pair (graph_of sizes barred pairs) a b c d || x) (key_same (p, i, q, j) (a, b, c, d))
+    ap (list_any (λ k. (eqb k.0 a && eqb k.1 b) && (eqb k.2 c && eqb k.3 d))) e
+    ∙ list_any-append (λ (k : Key). (eqb k.0 a && eqb k.1 b) && (eqb k.2 c && eqb k.3 d)) pairs ((p, i, q, j) ∷ [])
+    ∙ ap (λ x. list_any (λ (k : Key). (eqb k.0 a && eqb k.1 b) && (eqb k.2 c && eqb k.3 d)) pairs || x) (or-none _ ∙ key-turned p i q j a b c d)
 
 pub pair-kept : {Z : Type 0} (sizes : List ℕ) (barred : List (Vec Bool Z)) (pairs more : List Key) (p i q j : ℕ) → IsKept (graph_of sizes barred pairs) barred →
     p < q → q < length sizes → i < get_or sizes p 0 → j < get_or sizes q 0 →

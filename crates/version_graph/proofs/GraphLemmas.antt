@@ -1,61 +1,25 @@
 -- How the parts of an instance tell what is forbidden, and who is a neighbour of whom.
-use Rattle.std.proofs.Common.{◌≡◌, ℕ, ◌+◌, ◌-◌, ◌<◌, ◌≤◌, Bool, true, false, not, ◌&&◌, ◌||◌, List, [], ◌∷◌, ◌++◌, length, get_or, set, map, take, drop, refl, sym, ◌∙◌, subst, ap, arith, inl, inr, eqb, ltb}
-use Rattle.std.specs.declared.cmp.Ordering.{Ordering}
-use Rattle.std.specs.declared.cmp.Ordering.TheVariants.{Less, Equal, Greater}
-use Rattle.std.specs.Ordering.{nat_cmp, ordering_then, is_eq}
+use Rattle.std.proofs.Common.{◌≡◌, ℕ, ◌+◌, ◌-◌, ◌<◌, ◌≤◌, Bool, true, false, not, ◌&&◌, ◌||◌, List, [], ◌∷◌, ◌++◌, length, get_or, set, take, drop, refl, sym, ◌∙◌, subst, ap, arith, inl, inr, eqb}
 use Rattle.std.specs.List.{list_any, range_with_len, Contains, insert}
 use Rattle.std.specs.List.Sorted.{IsStrictlyIncreasing}
 use Rattle.std.specs.declared.vec.Vec.{Vec}
 use Rattle.std.proofs.lemmas.Bool.{cases_lt, eq-eqb, eqb-true, ne_eqb, lt-ltb, le-ltb, and_from, and_parts, or_cases, cases_Bool, cases_order}
 use Rattle.std.proofs.lemmas.Bool.Decides.{eqb_tells}
-use Rattle.std.proofs.lemmas.List.{get_or-map, length-map, get_or_read, get_or_past, get_or-set_same, get_or-set_other, length-set, take-append-drop}
+use Rattle.std.proofs.lemmas.List.{get_or-map, get_or_read, get_or-set_same, get_or-set_other, length-set, take-append-drop}
 use Rattle.std.proofs.lemmas.List.Edits.{get_or-insert_below, get_or-insert_at, get_or-insert_above, length-insert}
 use Rattle.std.proofs.lemmas.Map.Keys.{below_from_sorted, sorted_from_strictly_increasing}
 use Rattle.std.proofs.lemmas.Grind.{get_or_default_zero}
 use Rattle.std.proofs.lemmas.List.Folds.{list_any_at, list_any_more, list_any-append, Any-from_list_any}
 use Rattle.std.proofs.lemmas.List.FromFn.{length-range_with_len, get_or-range_with_len}
 use Rattle.version_graph.specs.Graph.{Graph, packages, states, is_barred, has_pair, is_forbidden, is_offered, are_neighbours, IsBetween, IsGraph, IsListOf}
-use Rattle.version_graph.specs.Stored.{rows_of, graph_of, IsKept, includes, pair_at, AreBelow, is_linked, AreLinked, AreRising, AddsLink}
+use Rattle.version_graph.specs.Stored.{rows_of, graph_of, IsKept, IsListed, includes, pair_at, AreBelow, is_linked, AreLinked, AreRising, AddsLink, AreNeighbourRows}
 
 -- the row of a list of vectors
 pub row-at : {T Z : Type 0} (vs : List (Vec T Z)) (p : ℕ) (v : Vec T Z) → p < length vs → get_or (rows_of vs) p [] ≡ (get_or vs p v).items
 row-at vs p v h = get_or-map (λ (x : Vec _ _). x.items) vs p v [] h
 
--- ---- the order of the listed pairs finds the pair itself
-
 abbrev pub Key : Type 0
 Key = ℕ × ℕ × ℕ × ℕ
-
-abbrev pub key_cmp : Key → Key → Ordering
-key_cmp x y = ordering_then (ordering_then (ordering_then (nat_cmp x.0 y.0) (nat_cmp x.1 y.1)) (nat_cmp x.2 y.2)) (nat_cmp x.3 y.3)
-
-is_eq-nat : (a b : ℕ) → is_eq (nat_cmp a b) ≡ eqb b a
-is_eq-nat a b =
-    elim (cases_order a b) [
-      | inl e ↦ rw (le-ltb a b (omega arith), eq-eqb a b e, eq-eqb b a (sym e)) refl
-      | inr o ↦ elim o [
-        | inl l ↦ rw (lt-ltb a b l, ne_eqb b a (λ e. absurd (omega arith))) refl
-        | inr l ↦ rw (le-ltb a b (omega arith), ne_eqb a b (λ e. absurd (omega arith)), ne_eqb b a (λ e. absurd (omega arith))) refl
-      ]
-    ]
-
-is_eq-then : (x y : Ordering) → is_eq (ordering_then x y) ≡ (is_eq x && is_eq y)
-is_eq-then Less y = refl
-is_eq-then Equal y = refl
-is_eq-then Greater y = refl
-
-regroup : (a b c d : Bool) → (((a && b) && c) && d) ≡ ((a && b) && (c && d))
-regroup true true c d = refl
-regroup true false c d = refl
-regroup false b c d = refl
-
-pub key_same : (x y : Key) → is_eq (key_cmp x y) ≡ ((eqb y.0 x.0 && eqb y.1 x.1) && (eqb y.2 x.2 && eqb y.3 x.3))
-key_same x y =
-    simp (is_eq-then, is_eq-nat) (regroup (eqb y.0 x.0) (eqb y.1 x.1) (eqb y.2 x.2) (eqb y.3 x.3))
-
-pub contains-pair : (g : Graph) (p i q j : ℕ) → list_any (λ k. is_eq (key_cmp (p, i, q, j) k)) g.pairs ≡ has_pair g p i q j
-unfolding has_pair
-contains-pair g p i q j = ap (λ t. list_any t g.pairs) (λ n k. key_same (p, i, q, j) k n)
 
 -- ---- forbidden pairs
 
@@ -196,17 +160,28 @@ list-from_linked g barred k rows l p known = record {
   whole = λ q e. Contains_from_includes (get_or rows p []) q (l.linked p q known ∙ neighbours-linked g p q e);
 }
 
--- each listed pair is below the number of packages
-pub below-from : {Z : Type 0} (g : Graph) (barred : List (Vec Bool Z)) → IsKept g barred → AreBelow (packages g) g.pairs
-unfolding has_pair
-below-from g barred k = record {
-  at = λ n h.
-      let x = pair_at g.pairs n in
-      let same : (eqb x.0 x.0 && eqb x.1 x.1) && (eqb x.2 x.2 && eqb x.3 x.3) ≡ true =
-      and_from _ _ (and_from _ _ (eq-eqb x.0 x.0 refl) (eq-eqb x.1 x.1 refl)) (and_from _ _ (eq-eqb x.2 x.2 refl) (eq-eqb x.3 x.3 refl)) in
-      let l = k.listed x.0 x.1 x.2 x.3 (list_any_at (λ (y : Key). (eqb y.0 x.0 && eqb y.1 x.1) && (eqb y.2 x.2 && eqb y.3 x.3)) g.pairs n (0, 0, 0, 0) h same) in
-      (l.below, l.known);
+pub rows-from_linked : {Z : Type 0} (g : Graph) (barred : List (Vec Bool Z)) → IsKept g barred → (rows : List (List ℕ)) →
+    AreLinked (packages g) g.pairs rows → AreNeighbourRows g rows
+rows-from_linked g barred k rows l = record {
+  each = l.each;
+  lists = list-from_linked g barred k rows l;
+  inside = λ p n known h.
+      let f = forbidden_from_neighbours g p (get_or (get_or rows p []) n 0) ((list-from_linked g barred k rows l p known).sound n h) in
+      (between-from g barred k p f.0 (get_or (get_or rows p []) n 0) f.1 f.2).second;
 }
+
+-- each listed pair is one of states that there are
+pub pair-listed : {Z : Type 0} (g : Graph) (barred : List (Vec Bool Z)) → IsKept g barred → (n : ℕ) → n < length g.pairs →
+    IsListed g (pair_at g.pairs n).0 (pair_at g.pairs n).1 (pair_at g.pairs n).2 (pair_at g.pairs n).3
+unfolding has_pair
+pair-listed g barred k n h =
+    let x = pair_at g.pairs n in
+    let same : (eqb x.0 x.0 && eqb x.1 x.1) && (eqb x.2 x.2 && eqb x.3 x.3) ≡ true =
+    and_from _ _ (and_from _ _ (eq-eqb x.0 x.0 refl) (eq-eqb x.1 x.1 refl)) (and_from _ _ (eq-eqb x.2 x.2 refl) (eq-eqb x.3 x.3 refl)) in
+    k.listed x.0 x.1 x.2 x.3 (list_any_at (λ (y : Key). (eqb y.0 x.0 && eqb y.1 x.1) && (eqb y.2 x.2 && eqb y.3 x.3)) g.pairs n (0, 0, 0, 0) h same)
+
+pub below-from : {Z : Type 0} (g : Graph) (barred : List (Vec Bool Z)) → IsKept g barred → AreBelow (packages g) g.pairs
+below-from g barred k = record { at = λ n h. let l = pair-listed g barred k n h in (l.below, l.known) }
 
 -- ---- states forbidden alone
 
@@ -226,35 +201,12 @@ pub offered-from_barred : (g : Graph) (p i : ℕ) → p < packages g → i < sta
 unfolding is_offered
 offered-from_barred g p i known state = rw (lt-ltb p (packages g) known, lt-ltb i (states g p) state) refl
 
--- the opposite of the row of p is what it offers
-pub offered-row : {Z : Type 0} (sizes : List ℕ) (barred : List (Vec Bool Z)) (pairs : List Key) → IsKept (graph_of sizes barred pairs) barred →
-    (p : ℕ) → p < length sizes → (v : Vec Bool Z) → v ≡ get_or barred p v →
-    (length v.items ≡ get_or sizes p 0) × ((i : ℕ) → get_or (map not v.items) i false ≡ is_offered (graph_of sizes barred pairs) p i)
-unfolding is_barred is_offered
-offered-row sizes barred pairs k p known v at =
-    let fits : p < length barred = omega (arith, k.each) in
-    let row : get_or (rows_of barred) p [] ≡ v.items = row-at barred p v fits ∙ ap (λ (x : Vec Bool _). x.items) (sym at) in
-    let wide : length v.items ≡ get_or sizes p 0 = ap length (sym row) ∙ k.wide p known in (
-      wide,
-      λ i. elim (cases_lt i (get_or sizes p 0)) [
-        | inl h ↦
-            let there : i < length v.items = omega (arith, wide) in
-            get_or-map not v.items i false false there ∙ ap (λ r. not (get_or r i false)) (sym row)
-            ∙ sym (ap (λ x. x && (ltb i (get_or sizes p 0) && not (get_or (get_or (rows_of barred) p []) i false))) (lt-ltb _ _ known)
-            ∙ ap (λ x. x && not (get_or (get_or (rows_of barred) p []) i false)) (lt-ltb _ _ h))
-        | inr h ↦
-            get_or_past (map not v.items) i false (omega (arith, wide, length-map v.items not))
-            ∙ sym (ap (λ x. x && (ltb i (get_or sizes p 0) && not (get_or (get_or (rows_of barred) p []) i false))) (lt-ltb _ _ known)
-            ∙ ap (λ x. x && not (get_or (get_or (rows_of barred) p []) i false)) (le-ltb _ _ h))
-      ],
-    )
-
 -- ---- linking rows
 
 list-any-or : (xs ys : List ℕ) (x : ℕ) → includes (xs ++ ys) x ≡ (includes xs x || includes ys x)
 list-any-or xs ys x = list_any-append (λ y. eqb y x) xs ys
 
-eqb-sym : (a b : ℕ) → eqb a b ≡ eqb b a
+pub eqb-sym : (a b : ℕ) → eqb a b ≡ eqb b a
 eqb-sym a b = elim (eqb_tells a b) [ inl t ↦ t.0 ∙ sym (eq-eqb b a (sym t.1)) | inr t ↦ t.0 ∙ sym (ne_eqb b a (λ e. t.1 (sym e))) ]
 
 pub link-found : (xs : List ℕ) (q i : ℕ) → i < length xs → get_or xs i 0 ≡ q → (x : ℕ) → includes xs x ≡ (includes xs x || eqb x q)

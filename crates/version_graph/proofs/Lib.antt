@@ -5,3 +5,5 @@ pub mod ListLemmas
 pub mod RowLemmas
 pub mod TrailLemmas
 pub mod PartLemmas
+pub mod LinkLemmas
+pub mod SumLemmas

@@ -2,12 +2,12 @@
 use Rattle.std.proofs.Common.{◌≡◌, ℕ, zero, suc, ◌+◌, ◌<◌, ◌≤◌, Bool, true, false, not, cond, ◌&&◌, List, [], ◌∷◌, sum, length, get_or, set, refl, sym, ◌∙◌, subst, ap, arith, inl, inr, eqb, ltb, ◌||◌}
 use Rattle.std.proofs.lemmas.Bool.{cases_lt, cases_order, cases_Bool, eq-eqb, ne_eqb, lt-ltb, le-ltb}
 use Rattle.std.proofs.lemmas.Bool.Decides.{eqb_tells}
-use Rattle.std.proofs.lemmas.List.{map-set, get_or-map, length-map, set_past, get_or_past, get_or-set_same, get_or-set_other, length-set}
+use Rattle.std.proofs.lemmas.List.{map-set, get_or_read, get_or-map, length-map, set_past, get_or_past, get_or-set_same, get_or-set_other, length-set}
 use Rattle.std.proofs.lemmas.List.Sums.{sum_by-set, sum_by-cons, count_by-le-length}
 use Rattle.version_graph.specs.Graph.{Graph, packages, states, is_barred, is_offered, is_state}
 use Rattle.version_graph.specs.Stored.{rows_of}
 use Rattle.std.specs.declared.vec.Vec.{Vec}
-use Rattle.version_graph.specs.Domain.{Rows, row, has, count_true, size_of, total, AreNarrow, IsOnly}
+use Rattle.version_graph.specs.Domain.{Rows, row, has, count_true, size_of, total, AreCounted, IsOnly}
 
 state_known : (d : Rows) (p i : ℕ) → has d p i ≡ true → i < length (row d p)
 unfolding has
@@ -139,6 +139,11 @@ pub row-read : {T Z : Type 0} (vs : List (Vec T Z)) (p : ℕ) (v : Vec T Z) → 
 row-read vs p v e h =
     get_or-map (λ (x : Vec _ _). x.items) vs p v [] (omega (arith, h, length-map vs (λ (x : Vec _ _). x.items))) ∙ ap (λ (x : Vec _ _). x.items) (sym e)
 
+-- a copy of the row that was read
+pub row-copied : {T Z : Type 0} (vs : List (Vec T Z)) (p : ℕ) (v : Vec T Z) (xs ys : List T) → v ≡ get_or vs p v → p < length vs → xs ≡ ys → ys ≡ v.items → xs ≡ get_or (rows_of vs) p []
+row-copied vs p v xs ys read known copy seen =
+    copy ∙ seen ∙ sym (row-read vs p v read (omega (arith, known, length-map vs (λ (x : Vec _ _). x.items))))
+
 pub rows-written : {Z : Type 0} (vs : List (Vec Bool Z)) (d : Rows) (p i : ℕ) (b : Bool) (v w : Vec Bool Z) → rows_of vs ≡ d → p < length d →
     v ≡ get_or vs p v → w.items ≡ set v.items i b → rows_of (set vs p w) ≡ written d p i b
 rows-written vs d p i b v w same known at new =
@@ -147,8 +152,61 @@ rows-written vs d p i b v w same known at new =
     ∙ ap (λ r. set (rows_of vs) p r) (new ∙ ap (λ r. set r i b) (sym (row-read vs p v at here)))
     ∙ ap (λ x. written x p i b) same
 
-pub narrow-written : (d : Rows) (p i : ℕ) (v : Bool) → AreNarrow d → AreNarrow (written d p i v)
-narrow-written d p i v n = record { narrow = λ q. omega (arith, row-written d p i v q, n.narrow q) }
+-- the count that is read is that of the domain
+pub size_read : (d now : Rows) (sizes : List ℕ) (p n : ℕ) → d ≡ now → AreCounted d sizes → p < length now → n ≡ get_or sizes p n → n ≡ size_of now p
+size_read d now sizes p n view c known read =
+    let inside : p < length d = omega (arith, known, ap length view) in
+    get_or_read sizes p n (omega (arith, inside, c.each)) read 0 ∙ c.count p inside ∙ ap (λ (x : Rows). size_of x p) view
+
+-- a domain with a state counts it
+pub size_some : (d : Rows) (p i : ℕ) → has d p i ≡ true → 1 ≤ size_of d p
+unfolding has size_of
+size_some d p i there =
+    let k = has_known d p i there in
+    let places = sum_by-set (λ (b : Bool). cond b 1 0) (row d p) i false false k.1 in
+    let same = rw there at places in
+    omega (arith, same)
+
+-- a domain that lacks a state counts fewer than its places
+pub size_less : (d : Rows) (p i : ℕ) → i < length (row d p) → has d p i ≡ false → size_of d p + 1 ≤ length (row d p)
+unfolding has size_of
+size_less d p i inside away =
+    let places = sum_by-set (λ (b : Bool). cond b 1 0) (row d p) i true false inside in
+    let same = rw away at places in
+    omega (arith, same, count-le (set (row d p) i true), length-set (row d p) i true)
+
+-- the counts, where one place and the count of its row are written
+pub counted-written : (d : Rows) (sizes : List ℕ) (p i n : ℕ) (v : Bool) → AreCounted d sizes → p < length d → i < length (row d p) →
+    n + cond (has d p i) 1 0 ≡ get_or sizes p 0 + cond v 1 0 → AreCounted (written d p i v) (set sizes p n)
+unfolding has size_of
+counted-written d sizes p i n v c known there e = record {
+  narrow = λ q. omega (arith, row-written d p i v q, c.narrow q);
+  each = length-set sizes p n ∙ c.each ∙ sym (length-written d p i v);
+  count = λ q h.
+      let below : q < length d = omega (arith, h, length-written d p i v) in
+      elim (eqb_tells q p) [
+        | inl t ↦
+            let places = sum_by-set (λ (b : Bool). cond b 1 0) (row d p) i v false there in
+            let same : get_or sizes p 0 ≡ count_true (row d p) = c.count p known in
+            let new : n ≡ count_true (set (row d p) i v) = omega (arith, e, places, same) in
+            ap (λ x. get_or (set sizes p n) x 0) t.1 ∙ get_or-set_same sizes p n 0 (omega (arith, known, c.each)) ∙ new
+            ∙ ap count_true (sym (ap (row (written d p i v)) t.1 ∙ get_or-set_same d p (set (row d p) i v) [] known))
+        | inr t ↦
+            get_or-set_other sizes p q n 0 t.1 ∙ c.count q below ∙ ap count_true (sym (get_or-set_other d p q (set (row d p) i v) [] t.1))
+      ];
+}
+
+pub counted-from : (d : Rows) (sizes : List ℕ) (n : ℕ) → length d ≡ n → ((q : ℕ) → q < n → length (row d q) ≤ 65536) → length sizes ≡ n →
+    ((q : ℕ) → q < n → get_or sizes q 0 ≡ count_true (row d q)) → AreCounted d sizes
+unfolding size_of
+counted-from d sizes n each few counts count = record {
+  narrow = λ q. elim (cases_lt q n) [
+    | inl h ↦ omega (arith, few q h)
+    | inr h ↦ omega (arith, ap length (get_or_past d q [] (omega (arith, h, each))))
+  ];
+  each = counts ∙ sym each;
+  count = λ q h. count q (omega (arith, h, each));
+}
 
 -- ---- one step of narrowing, and its end
 

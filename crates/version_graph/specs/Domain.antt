@@ -1,5 +1,5 @@
 -- Domains: for each package, which of its states are left. A domain is seen as its truth values, state by state.
-use Rattle.std.specs.Prelude.{◌≡◌, ℕ, ◌<◌, ◌^◌, Bool, true, false, List, [], length, slice_index_or, count_by, sum_by}
+use Rattle.std.specs.Prelude.{◌≡◌, ℕ, ◌<◌, ◌^◌, Bool, true, false, List, [], length, slice_index, slice_index_or, count_by, sum_by}
 use Rattle.version_graph.specs.Graph.{Graph, packages, states}
 
 abbrev pub Rows : Type 0
@@ -30,9 +30,11 @@ pub record IsFor (g : Graph) (d : Rows) : Type 0 where
   pub each : length d ≡ packages g
   pub wide : (p : ℕ) → p < packages g → length (row d p) ≡ states g p
 
--- each domain has fewer places than a 32-bit number can count
-pub record AreNarrow (d : Rows) : Type 0 where
+-- each domain has fewer places than a 32-bit number can count, and its count of states
+pub record AreCounted (d : Rows) (sizes : List ℕ) : Type 0 where
   pub narrow : (p : ℕ) → length (row d p) < 2 ^ 32
+  pub each : length sizes ≡ length d
+  pub count : (p : ℕ) → p < length d → slice_index sizes p ≡ size_of d p
 
 -- the domain of p is its state i alone
 pub record IsOnly (d : Rows) (p i : ℕ) : Type 0 where

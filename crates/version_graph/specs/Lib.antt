@@ -4,6 +4,7 @@ pub mod Domain
 pub mod Noted
 pub mod Answers
 pub mod Needed
+pub mod Links
 pub mod Part
 pub mod Copied
 pub mod Stored

@@ -1,9 +1,10 @@
 -- How an instance is kept, and what its parts have to do with its meaning.
-use Rattle.std.specs.Prelude.{◌≡◌, ℕ, ◌<◌, ◌≤◌, Bool, true, ◌&&◌, ◌||◌, ◌==◌, List, [], length, map, slice_index_or, sum}
+use Rattle.std.specs.Prelude.{◌≡◌, ℕ, ◌<◌, ◌≤◌, Bool, true, ◌&&◌, ◌||◌, ◌==◌, List, [], length, map, slice_index, slice_index_or, sum}
 use Rattle.std.specs.List.{list_any}
 use Rattle.std.specs.List.Sorted.{IsStrictlyIncreasing}
 use Rattle.std.specs.declared.vec.Vec.{Vec}
 use Rattle.version_graph.specs.Graph.{Graph, packages, states, has_pair, are_neighbours, IsListOf}
+use Rattle.version_graph.specs.Links.{Linked, link_at, IsLinkOf}
 
 -- the lists in a list of vectors
 abbrev pub rows_of : {T Z : Type 0} → List (Vec T Z) → List (List T)
@@ -28,11 +29,19 @@ pub record IsKept {Z : Type 0} (g : Graph) (barred : List (Vec Bool Z)) : Type 0
   pub each : length barred ≡ packages g
   pub wide : (p : ℕ) → p < packages g → length (slice_index_or (rows_of barred) p []) ≡ states g p
 
-pub record IsStored {Y Z : Type 0} (g : Graph) (barred : List (Vec Bool Z)) (lists : List (Vec ℕ Y)) (total : ℕ) : Type 0 where
+-- what holds of the parts of an instance
+pub record IsStored {Z : Type 0} (g : Graph) (barred : List (Vec Bool Z)) (links : List Linked) (total : ℕ) : Type 0 where
   pub kept : IsKept g barred
-  pub rows : length lists ≡ packages g
-  pub neighbours : (p : ℕ) → p < packages g → IsListOf (are_neighbours g p) (slice_index_or (rows_of lists) p [])
+  pub each : length links ≡ packages g
+  pub lists : (p : ℕ) → p < packages g → IsListOf (are_neighbours g p) (link_at links p).numbers
+  pub tables : (p : ℕ) → p < packages g → IsLinkOf g p (link_at links p)
   pub counted : total ≡ sum g.sizes
+
+-- for each package the row of its neighbours
+pub record AreNeighbourRows (g : Graph) (rows : List (List ℕ)) : Type 0 where
+  pub each : length rows ≡ packages g
+  pub lists : (p : ℕ) → p < packages g → IsListOf (are_neighbours g p) (slice_index_or rows p [])
+  pub inside : (p k : ℕ) → p < packages g → k < length (slice_index_or rows p []) → slice_index (slice_index_or rows p []) k < packages g
 
 -- whether the list has the number
 abbrev pub includes : List ℕ → ℕ → Bool

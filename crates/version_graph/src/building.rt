@@ -2,13 +2,14 @@
 ghost use Rattle.std.specs.Prelude.{◌≡◌, ◌≢◌, ◌<◌, ◌≤◌, ◌||◌, ◌^◌, ℕ, length, sum, slice_index, IfOk, IfErr, OnOk, OnErr};
 ghost use Rattle.version_graph.specs.Graph.{packages, states, is_barred, is_forbidden, is_state, is_pair, is_key, has_pair, bits, cells, IsOpen, SameGraph};
 ghost use Rattle.version_graph.specs.Answers.{CountsPass, SumsPass, IsMemory};
+ghost use Rattle.version_graph.specs.Stored.{rows_of, AreNeighbourRows};
 
-use crate::counting::{listed_pairs, neighbour_rows, open_rows, state_sum};
+use crate::counting::{neighbour_rows, open_rows, state_sum};
 use crate::fault::GraphFault;
 use crate::graph::Instance;
+use crate::linking::{forbid_pairs, free_links};
 use pkg_world::LimitKind;
 use std::alloc::{AllocError, Global};
-use std::collections::BTreeSet;
 use std::marker::Model;
 
 const MOST_PACKAGES: usize = 4096;
@@ -25,7 +26,7 @@ pub struct InstanceBuilder {
     sizes: Vec<u32>,
     total: u32,
     barred: Vec<Vec<bool>>,
-    pairs: BTreeSet<(u32, u32, u32, u32)>,
+    pairs: Vec<(u32, u32, u32, u32)>,
 }
 
 impl Model for InstanceBuilder {
@@ -35,9 +36,9 @@ impl Model for InstanceBuilder {
 
     ghost Value = { Graph };
 
-    ghost view = { λ a. graph_of a.sizes.items a.barred.items a.pairs.keys };
+    ghost view = { λ a. graph_of a.sizes.items a.barred.items a.pairs.items };
 
-    ghost invariant = { λ a. IsKept (graph_of a.sizes.items a.barred.items a.pairs.keys) a.barred.items × (a.total ≡ sum a.sizes.items) };
+    ghost invariant = { λ a. IsKept (graph_of a.sizes.items a.barred.items a.pairs.items) a.barred.items × (a.total ≡ sum a.sizes.items) };
 }
 
 impl InstanceBuilder {
@@ -75,13 +76,14 @@ impl InstanceBuilder {
             sizes,
             total: state_sum(states) as u32,
             barred,
-            pairs: BTreeSet::new(alloc),
+            pairs: Vec::new(alloc),
         })
     }
 
     /// How many packages there are.
     pub(crate) fn packages(&self) -> u32
-        ensures { result ≡ packages self.now }
+        ensures count { result ≡ packages self.now }
+        ensures few { result ≤ 4096 }
     {
         self.sizes.len() as u32
     }
@@ -89,7 +91,8 @@ impl InstanceBuilder {
     /// How many states the package p has.
     pub(crate) fn states(&self, p: u32) -> u32
         requires { p < packages self.now }
-        ensures { result ≡ states self.now p }
+        ensures count { result ≡ states self.now p }
+        ensures few { result ≤ 65536 }
     {
         self.sizes[p as usize]
     }
@@ -154,7 +157,7 @@ impl InstanceBuilder {
         ensures ok { OnOk result ((a b c d : ℕ) → has_pair self.new a b c d ≡ (has_pair self.old a b c d || is_key a b c d p i q j)) }
         ensures err { OnErr result (self.new ≡ self.old) }
     {
-        self.pairs.insert((p, i, q, j)).map_err(AllocError::from)?;
+        self.pairs.push((p, i, q, j))?;
         Ok(())
     }
 
@@ -166,23 +169,39 @@ impl InstanceBuilder {
         ensures within { OnOk result ((bits self ≤ 2 ^ 30) × (cells self ≤ 2 ^ 25)) }
         ensures err { IfErr result (SumsPass self) }
     {
-        let instance = self.linked(alloc)?;
-        let sums = instance.sums();
+        let rows = self.neighbour_rows(alloc)?;
+        let sums = self.sums(rows.as_slice());
         if sums.bits > MOST_BITS {
             return Err(GraphFault::Limit(LimitKind::Bits, sums.bits));
         }
         if sums.cells > MOST_CELLS {
             return Err(GraphFault::Limit(LimitKind::Cells, sums.cells));
         }
-        Ok(instance)
+        Ok(self.linked(alloc, rows.as_slice())?)
     }
 
-    /// The instance with its neighbours, before its sums are looked at.
-    pub(crate) fn linked(self, alloc: Global) -> Result<Instance, AllocError>
+    /// The instance, whose sums aren't looked at.
+    pub(crate) fn joined(self, alloc: Global) -> Result<Instance, AllocError>
         ensures { IfOk result (λ instance. instance ≡ self) }
     {
-        let listed = listed_pairs(alloc, &self.pairs)?;
-        let neighbours = neighbour_rows(alloc, self.sizes.len(), listed.as_slice())?;
+        let rows = self.neighbour_rows(alloc)?;
+        self.linked(alloc, rows.as_slice())
+    }
+
+    /// For each package the packages with which a pair is listed.
+    fn neighbour_rows(&self, alloc: Global) -> Result<Vec<Vec<u32>>, AllocError>
+        ensures { IfOk result (λ rows. AreNeighbourRows self.now (rows_of rows.items)) }
+    {
+        neighbour_rows(alloc, self.sizes.len(), self.pairs.as_slice())
+    }
+
+    /// The instance with its tables, from the rows of neighbours.
+    fn linked(self, alloc: Global, rows: &[Vec<u32>]) -> Result<Instance, AllocError>
+        requires { AreNeighbourRows self (rows_of rows.now) }
+        ensures { IfOk result (λ instance. instance ≡ self) }
+    {
+        let mut links = free_links(alloc, rows, self.sizes.as_slice())?;
+        forbid_pairs(&mut links, self.pairs.as_slice());
         let Self {
             sizes,
             total,
@@ -194,7 +213,7 @@ impl InstanceBuilder {
             total,
             barred,
             pairs,
-            neighbours,
+            links,
         })
     }
 }

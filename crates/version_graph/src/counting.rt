@@ -1,12 +1,11 @@
 //! What is counted and linked while an instance is made.
-ghost use Rattle.std.specs.Prelude.{◌≡◌, ◌≢◌, ◌<◌, ◌≤◌, ◌*◌, ◌+◌, ◌^◌, ◌||◌, ◌==◌, ℕ, true, false, [], length, sum, slice_index, slice_index_or, IfOk, OnOk, IfErr, replicate};
+ghost use Rattle.std.specs.Prelude.{◌≡◌, ◌≢◌, ◌<◌, ◌≤◌, ◌*◌, ◌+◌, ◌^◌, ◌||◌, ◌==◌, ℕ, true, false, [], length, sum, slice_index, slice_index_or, nat_lt, if◌then◌else◌, IfOk, OnOk, replicate};
 ghost use Rattle.std.specs.List.Sorted.{IsStrictlyIncreasing};
-ghost use Rattle.version_graph.specs.Graph.{Graph, packages, states, are_neighbours, share, sum_below, bits, cells};
-ghost use Rattle.version_graph.specs.Stored.{rows_of, includes, AreLinked, AreBelow, AreRising, AddsLink};
+ghost use Rattle.version_graph.specs.Graph.{packages, states, are_neighbours, share, sum_below, bits, cells, IsListOf};
+ghost use Rattle.version_graph.specs.Stored.{rows_of, includes, AreLinked, AreBelow, AreRising, AddsLink, AreNeighbourRows};
 
-use crate::graph::Instance;
+use crate::building::InstanceBuilder;
 use std::alloc::{AllocError, Global};
-use std::collections::BTreeSet;
 
 /// How many states there are together.
 pub(crate) fn state_sum(states: &[u32]) -> u64
@@ -97,16 +96,6 @@ pub(crate) fn neighbour_rows(
     Ok(rows)
 }
 
-/// The listed pairs, in order.
-pub(crate) fn listed_pairs(
-    alloc: Global,
-    pairs: &BTreeSet<(u32, u32, u32, u32)>,
-) -> Result<Vec<(u32, u32, u32, u32)>, AllocError>
-    ensures { IfOk result (λ listed. listed.items ≡ pairs.now.keys) }
-{
-    pairs.iter().copied().collect(alloc)
-}
-
 /// The product of two numbers of states.
 fn product(first: u32, second: u32) -> u64
     requires first { first ≤ 65536 }
@@ -124,39 +113,32 @@ pub(crate) struct Sums {
     pub(crate) cells: u64,
 }
 
-impl Instance {
-    /// Whether the two packages are neighbours.
-    pub(crate) fn are_neighbours(&self, p: u32, q: u32) -> bool
-        requires { p < packages self.now }
-        ensures { result ≡ are_neighbours self.now p q }
-    {
-        self.neighbours[p as usize].as_slice().contains(&q)
-    }
-
-    /// What the two packages add.
-    #[tactic(auto, unfolding(crate::specs::Graph::share))]
-    fn share(&self, p: u32, q: u32) -> Sums
+impl InstanceBuilder {
+    /// What the pair of p and q adds where q is the lower package.
+    fn pair_sums(&self, p: u32, q: u32) -> Sums
         requires first { p < packages self.now }
         requires second { q < packages self.now }
-        ensures bits { result.bits ≡ share self.now (λ a b. a * b) p q }
-        ensures cells { result.cells ≡ share self.now (λ a b. a + b) p q }
+        ensures bits { result.bits ≡ (if nat_lt q p then states self.now p * states self.now q else 0) }
+        ensures cells { result.cells ≡ (if nat_lt q p then states self.now p + states self.now q else 0) }
         ensures few_bits { result.bits ≤ 2 ^ 32 }
         ensures few_cells { result.cells ≤ 2 ^ 32 }
     {
-        if !self.are_neighbours(p, q) {
-            return Sums { bits: 0, cells: 0 };
+        if q < p {
+            let first = self.states(p);
+            let second = self.states(q);
+            return Sums {
+                bits: product(first, second),
+                cells: u64::from(first) + u64::from(second),
+            };
         }
-        let first = self.states(p);
-        let second = self.states(q);
-        Sums {
-            bits: product(first, second),
-            cells: u64::from(first) + u64::from(second),
-        }
+        Sums { bits: 0, cells: 0 }
     }
 
     /// What the pairs of p and a lower package add.
-    fn sums_of(&self, p: u32) -> Sums
-        requires { p < packages self.now }
+    fn sums_of(&self, p: u32, row: &[u32]) -> Sums
+        requires known { p < packages self.now }
+        requires list { IsListOf (are_neighbours self.now p) row.now }
+        requires inside { (k : ℕ) → k < length row.now → slice_index row.now k < packages self.now }
         ensures bits { result.bits ≡ sum_below (share self.now (λ a b. a * b) p) p }
         ensures cells { result.cells ≡ sum_below (share self.now (λ a b. a + b) p) p }
         ensures few_bits { result.bits ≤ p * 2 ^ 32 }
@@ -164,8 +146,8 @@ impl Instance {
     {
         let mut bits: u64 = 0;
         let mut cells: u64 = 0;
-        for q in 0..p {
-            let more = self.share(p, q);
+        for q in row {
+            let more = self.pair_sums(p, *q);
             bits += more.bits;
             cells += more.cells;
         }
@@ -174,14 +156,15 @@ impl Instance {
 
     /// The sums over all neighbouring pairs.
     #[tactic(auto, unfolding(crate::specs::Graph::neighbour_sum))]
-    pub(crate) fn sums(&self) -> Sums
+    pub(crate) fn sums(&self, rows: &[Vec<u32>]) -> Sums
+        requires { AreNeighbourRows self.now (rows_of rows.now) }
         ensures bits { result.bits ≡ bits self.now }
         ensures cells { result.cells ≡ cells self.now }
     {
         let mut bits: u64 = 0;
         let mut cells: u64 = 0;
         for p in 0..self.packages() {
-            let more = self.sums_of(p);
+            let more = self.sums_of(p, rows[p as usize].as_slice());
             bits += more.bits;
             cells += more.cells;
         }

@@ -1,31 +1,33 @@
 //! The domains: which states of each package are left.
-ghost use Rattle.std.specs.Prelude.{◌≡◌, ◌<◌, ◌≤◌, ◌-◌, ◌∷◌, ◌++◌, ◌&&◌, ◌||◌, ◌==◌, [], ℕ, true, false, not, length, take, IfOk, IsTrue, slice_set, slice_index_or};
+ghost use Rattle.std.specs.Prelude.{◌≡◌, ◌<◌, ◌≤◌, ◌-◌, ◌∷◌, ◌++◌, ◌&&◌, ◌||◌, ◌==◌, [], ℕ, true, false, not, length, take, IfOk, MatchBool, slice_set};
 ghost use Rattle.version_graph.specs.Graph.{Graph, packages, states, is_offered, is_state};
 ghost use Rattle.version_graph.specs.Family.{narrowed};
-ghost use Rattle.version_graph.specs.Domain.{Rows, has, row, size_of, IsFor, count_true};
+ghost use Rattle.version_graph.specs.Domain.{has, row, size_of, IsFor};
 ghost use Rattle.version_graph.specs.Noted.{History, Holds, IsFresh, note_at};
 
 use crate::graph::Instance;
 use crate::trail::Trail;
+use bit_rows::{BitRow, count};
 use std::alloc::{AllocError, Global};
 use std::marker::Model;
 
 /// For each package, the states that are left.
 #[derive(Drop)]
 pub struct Domains {
-    rows: Vec<Vec<bool>>,
+    rows: Vec<BitRow>,
+    /// How many states each domain has.
+    sizes: Vec<u32>,
 }
 
 impl Model for Domains {
-    ghost use Rattle.std.specs.Prelude.{List, Bool, ℕ, map};
-    ghost use Rattle.version_graph.specs.Stored.{rows_of};
-    ghost use Rattle.version_graph.specs.Domain.{AreNarrow};
+    ghost use Rattle.std.specs.Prelude.{List, Bool};
+    ghost use Rattle.version_graph.specs.Domain.{AreCounted};
 
     ghost Value = { List (List Bool) };
 
-    ghost view = { λ a. rows_of a.rows.items };
+    ghost view = { λ a. a.rows.items };
 
-    ghost invariant = { λ a. AreNarrow (rows_of a.rows.items) };
+    ghost invariant = { λ a. AreCounted a.rows.items a.sizes.items };
 }
 
 impl Domains {
@@ -36,10 +38,13 @@ impl Domains {
         ensures fresh { IfOk result (λ domains. (trail : History) → IsFresh instance.now trail → Holds instance.now domains trail) }
     {
         let mut rows = Vec::new(alloc);
+        let mut sizes = Vec::new(alloc);
         for p in 0..instance.packages() {
-            rows.push(instance.offered(alloc, p)?)?;
+            let row = instance.offered(alloc, p)?;
+            sizes.push(count(&row))?;
+            rows.push(row)?;
         }
-        Ok(Domains { rows })
+        Ok(Domains { rows, sizes })
     }
 
     /// Whether the domain of p has the state i. It takes no memory.
@@ -48,7 +53,7 @@ impl Domains {
         requires state { i < length (row self.now p) }
         ensures { result ≡ has self.now p i }
     {
-        self.rows[p as usize][i as usize]
+        self.rows[p as usize].get(i)
     }
 
     /// How many states the domain of p has. It takes no memory.
@@ -58,7 +63,23 @@ impl Domains {
         ensures none { result ≡ 0 → (i : ℕ) → has self.now p i ≡ false }
         ensures some { 0 < result → (i : ℕ) × (has self.now p i ≡ true) }
     {
-        count_of(self.rows[p as usize].as_slice()) as u32
+        self.sizes[p as usize]
+    }
+
+    /// Whether the domain of p has a state.
+    pub(crate) fn is_filled(&self, p: u32) -> bool
+        requires { p < length self.now }
+        ensures { MatchBool result ((i : ℕ) × (has self.now p i ≡ true)) ((i : ℕ) → has self.now p i ≡ false) }
+    {
+        self.size(p) > 0
+    }
+
+    /// The domain of p.
+    pub(crate) fn row(&self, p: u32) -> &BitRow
+        requires { p < length self.now }
+        ensures { result.now ≡ row self.now p }
+    {
+        &self.rows[p as usize]
     }
 
     /// Takes the state i out of the domain of p and notes it last. It takes no memory.
@@ -69,7 +90,7 @@ impl Domains {
         ensures notes { trail.new.notes ≡ trail.old.notes ++ (p, i) ∷ [] }
         ensures keeps { (g : Graph) → Holds g self.old trail.old → Holds g self.new trail.new }
     {
-        self.set(p, i, false);
+        self.remove(p, i);
         trail.push(p, i);
     }
 
@@ -83,7 +104,7 @@ impl Domains {
         ensures keeps { (g : Graph) → Holds g self.old trail.old → Holds g self.new trail.new }
     {
         let (p, i) = trail.pop();
-        self.set(p, i, true);
+        self.restore(p, i);
     }
 
     /// Cuts the domain of p to its state i, and notes each state that is taken out after the earlier notes.
@@ -105,7 +126,7 @@ impl Domains {
         requires { p < length self.now }
         ensures { result ≡ length (row self.now p) }
     {
-        self.rows[p as usize].len() as u32
+        self.rows[p as usize].width()
     }
 
     /// Takes the state j out of the domain of p, if it is there and isn't the state i.
@@ -123,20 +144,23 @@ impl Domains {
         }
     }
 
-    /// Writes one place.
-    fn set(&mut self, p: u32, i: u32, value: bool)
+    /// Takes out one state.
+    fn remove(&mut self, p: u32, i: u32)
+        requires { has self.old p i ≡ true }
+        ensures { self.new ≡ slice_set self.old p (slice_set (row self.old p) i false) }
+    {
+        self.rows[p as usize].clear(i);
+        self.sizes[p as usize] -= 1;
+    }
+
+    /// Puts one state in.
+    fn restore(&mut self, p: u32, i: u32)
         requires known { p < length self.old }
         requires state { i < length (row self.old p) }
-        ensures { self.new ≡ slice_set self.old p (slice_set (row self.old p) i value) }
+        requires away { has self.old p i ≡ false }
+        ensures { self.new ≡ slice_set self.old p (slice_set (row self.old p) i true) }
     {
-        let row = &mut self.rows[p as usize];
-        row[i as usize] = value;
+        self.rows[p as usize].set(i);
+        self.sizes[p as usize] += 1;
     }
-}
-
-/// How many of the values are true.
-fn count_of(row: &[bool]) -> usize
-    ensures { result ≡ count_true row.now }
-{
-    row.iter().filter(|value| **value).count()
 }

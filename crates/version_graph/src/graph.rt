@@ -6,10 +6,11 @@ ghost use Rattle.version_graph.specs.Family.{Meets, AreAlike};
 ghost use Rattle.version_graph.specs.Domain.{has, IsFor};
 
 use crate::domain::Domains;
+use crate::links::Links;
 use crate::needs::Needs;
+use bit_rows::BitRow;
 use pkg_world::States;
 use std::alloc::{AllocError, Global};
-use std::collections::BTreeSet;
 use std::marker::Model;
 
 /// Packages with numbered states, states forbidden alone, and pairs of states of two packages forbidden
@@ -19,8 +20,8 @@ pub struct Instance {
     pub(crate) sizes: Vec<u32>,
     pub(crate) total: u32,
     pub(crate) barred: Vec<Vec<bool>>,
-    pub(crate) pairs: BTreeSet<(u32, u32, u32, u32)>,
-    pub(crate) neighbours: Vec<Vec<u32>>,
+    pub(crate) pairs: Vec<(u32, u32, u32, u32)>,
+    pub(crate) links: Vec<Links>,
 }
 
 impl Model for Instance {
@@ -29,9 +30,9 @@ impl Model for Instance {
 
     ghost Value = { Graph };
 
-    ghost view = { λ a. graph_of a.sizes.items a.barred.items a.pairs.keys };
+    ghost view = { λ a. graph_of a.sizes.items a.barred.items a.pairs.items };
 
-    ghost invariant = { λ a. IsStored (graph_of a.sizes.items a.barred.items a.pairs.keys) a.barred.items a.neighbours.items a.total };
+    ghost invariant = { λ a. IsStored (graph_of a.sizes.items a.barred.items a.pairs.items) a.barred.items a.links.items a.total };
 }
 
 impl Instance {
@@ -79,11 +80,7 @@ impl Instance {
         requires apart { p ≢ q }
         ensures { result ≡ not (is_forbidden self.now p i q j) }
     {
-        if p < q {
-            !self.pairs.contains(&(p, i, q, j))
-        } else {
-            !self.pairs.contains(&(q, j, p, i))
-        }
+        self.links[p as usize].allows(i, q, j)
     }
 
     /// The packages of which some state is forbidden with a state of p, rising. It takes no memory.
@@ -94,7 +91,15 @@ impl Instance {
         ensures apart { (k : ℕ) → k < length result.now → slice_index result.now k ≢ p }
         ensures whole { (i q j : ℕ) → is_forbidden self.now p i q j ≡ true → Contains result.now q }
     {
-        self.neighbours[p as usize].as_slice()
+        self.links[p as usize].numbers()
+    }
+
+    /// Whether the two packages are neighbours.
+    pub(crate) fn are_neighbours(&self, p: u32, q: u32) -> bool
+        requires { p < packages self.now }
+        ensures { result ≡ are_neighbours self.now p q }
+    {
+        self.links[p as usize].has(q)
     }
 
     /// The packages whose last state is forbidden alone, rising. The one error is want of memory.
@@ -133,25 +138,10 @@ impl Instance {
         requires made { IsFor self.now domains.now }
         ensures { MatchBool result (Meets self.now (has domains.now) p i q) ((j : ℕ) → has domains.now q j ≡ true → is_forbidden self.now p i q j ≡ true) }
     {
-        for j in 0..self.states(q) {
-            if self.is_partner(p, i, q, j, domains) {
-                return true;
-            }
+        match self.links[p as usize].allows_any(i, q, domains.row(q)) {
+            Some(is_met) => is_met,
+            None => domains.is_filled(q),
         }
-        false
-    }
-
-    /// Whether the state j is in q's domain and allowed with the state i of p.
-    fn is_partner(&self, p: u32, i: u32, q: u32, j: u32, domains: &Domains) -> bool
-        requires first { p < packages self.now }
-        requires first_state { i < states self.now p }
-        requires second { q < packages self.now }
-        requires second_state { j < states self.now q }
-        requires apart { p ≢ q }
-        requires made { IsFor self.now domains.now }
-        ensures { result ≡ (has domains.now q j && not (is_forbidden self.now p i q j)) }
-    {
-        domains.has(q, j) && self.allowed(p, i, q, j)
     }
 
     /// Whether the states i and j of p are allowed with the same states of q's domain. It takes no memory.
@@ -164,33 +154,36 @@ impl Instance {
         requires made { IsFor self.now domains.now }
         ensures { MatchBool result (AreAlike self.now (has domains.now) p i j q) (AreAlike self.now (has domains.now) p i j q → ⊥) }
     {
-        for k in 0..self.states(q) {
-            let is_there = domains.has(q, k);
-            let is_first = self.allowed(p, i, q, k);
-            let is_second = self.allowed(p, j, q, k);
-            if is_there && is_first != is_second {
-                return false;
-            }
-        }
-        true
+        self.links[p as usize].are_alike(i, j, q, domains.row(q))
     }
 
     /// The states of p that aren't forbidden alone.
-    pub(crate) fn offered(&self, alloc: Global, p: u32) -> Result<Vec<bool>, AllocError>
+    pub(crate) fn offered(&self, alloc: Global, p: u32) -> Result<BitRow, AllocError>
         requires { p < packages self.now }
-        ensures each { IfOk result (λ row. length row.items ≡ states self.now p) }
-        ensures row { IfOk result (λ row. (i : ℕ) → slice_index_or row.items i false ≡ is_offered self.now p i) }
+        ensures each { IfOk result (λ row. length row ≡ states self.now p) }
+        ensures row { IfOk result (λ row. (i : ℕ) → slice_index_or row i false ≡ is_offered self.now p i) }
+        ensures few { IfOk result (λ row. length row ≤ 65536) }
     {
-        let row = flipped(alloc, self.barred[p as usize].as_slice())?;
+        let count = self.states(p);
+        let mut row = BitRow::make(alloc, count)?;
+        for i in 0..count {
+            set_if(&mut row, i, self.is_offered(p, i));
+        }
         Ok(row)
     }
 }
 
-/// The opposite of each value.
-fn flipped(alloc: Global, values: &[bool]) -> Result<Vec<bool>, AllocError>
-    ensures { IfOk result (λ row. row.items ≡ map (λ b. not b) values.now) }
+/// Makes the place true where it is wanted.
+fn set_if(row: &mut BitRow, place: u32, wanted: bool)
+    requires known { place < length row.old }
+    requires off { slice_index_or row.old place false ≡ false }
+    ensures long { length row.new ≡ length row.old }
+    ensures here { slice_index_or row.new place false ≡ wanted }
+    ensures others { (k : ℕ) → k ≢ place → slice_index_or row.new k false ≡ slice_index_or row.old k false }
 {
-    values.iter().map(|value| !*value).collect(alloc)
+    if wanted {
+        row.set(place);
+    }
 }
 
 /// Appends the number where it is wanted.

@@ -8,6 +8,8 @@ mod domain;
 mod fault;
 mod graph;
 mod laws;
+mod linking;
+mod links;
 mod needs;
 mod restricting;
 mod state_map;

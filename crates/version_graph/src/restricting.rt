@@ -23,7 +23,7 @@ impl Instance {
             self.copy_states(part, p, &mut builder);
             self.copy_pairs(part, p, &mut builder)?;
         }
-        builder.linked(alloc)
+        builder.joined(alloc)
     }
 
     /// How many states each package of the part has.

@@ -16,7 +16,7 @@ each c = c.in_ok-barred.ensures.each ∙ ap length (sym (same c))
 
 pub invariant_of-result : goal.invariant_of-result
 invariant_of-result c = (
-  open-kept c.in_ok-sizes.sizes.items c.in_ok-barred.barred.items c.new.result.keys c.new.ensures.empty (each c) (rows c)
+  open-kept c.in_ok-sizes.sizes.items c.in_ok-barred.barred.items c.new.result.items c.new.ensures.items (each c) (rows c)
       (omega (arith, c.requires.few, ap length (same c)))
       (omega (arith, c.requires.small, ap sum (same c)))
       (subst (λ (xs : List ℕ). (p : ℕ) → p < length xs → 0 < get_or xs p 0) (sym (same c)) c.requires.filled),
@@ -24,4 +24,4 @@ invariant_of-result c = (
 )
 
 pub returns-clause-bare : goal.returns-clause-bare
-returns-clause-bare c = open-open c.in_ok-sizes.sizes.items c.in_ok-barred.barred.items c.new.result.keys c.new.ensures.empty (each c) (rows c)
+returns-clause-bare c = open-open c.in_ok-sizes.sizes.items c.in_ok-barred.barred.items c.new.result.items c.new.ensures.items (each c) (rows c)

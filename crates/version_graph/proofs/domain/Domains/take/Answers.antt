@@ -6,12 +6,6 @@ use Rattle.version_graph.specs.Graph.{is_state}
 use Rattle.version_graph.specs.Noted.{Holds}
 use Rattle.version_graph.proofs.domain.Domains.take.Goals as goal
 
-pub set-requires-clause-known : goal.set-requires-clause-known
-set-requires-clause-known c = (has_known _ _ _ c.requires.there).0
-
-pub set-requires-clause-state : goal.set-requires-clause-state
-set-requires-clause-state c = (has_known _ _ _ c.requires.there).1
-
 pub push-requires-clause-room : goal.push-requires-clause-room
 push-requires-clause-room c = (room_to_note c.requires.held.0 c.args.self.now c.args.trail.now c.args.p c.args.i c.requires.there c.requires.held.1).0
 
@@ -21,11 +15,11 @@ push-requires-clause-lengths c = (room_to_note c.requires.held.0 c.args.self.now
 pub returns-clause-without : goal.returns-clause-without
 returns-clause-without c q j =
     let k = has_known _ _ _ c.requires.there in
-    ap (λ x. has x q j) c.set.ensures
+    ap (λ x. has x q j) c.remove.ensures
     ∙ has-written _ _ _ _ q j k.0 k.1
     ∙ and-flipped (is_state q j c.args.p c.args.i) (has c.args.self.now q j)
 
 pub returns-clause-keeps : goal.returns-clause-keeps
 returns-clause-keeps c g h =
-    subst (λ x. Holds g x c.push.new.self) (sym c.set.ensures)
+    subst (λ x. Holds g x c.push.new.self) (sym c.remove.ensures)
     (takes g c.args.self.now c.args.trail.now c.push.new.self c.args.p c.args.i c.requires.there h c.push.ensures.notes c.push.ensures.settled c.push.ensures.room)

@@ -1,16 +1,12 @@
-use Rattle.std.proofs.Common.{◌∙◌, ap, sym, not}
-use Rattle.version_graph.specs.Graph.{has_pair}
-use Rattle.version_graph.proofs.GraphLemmas.{contains-pair, forbidden-below, forbidden-above}
+use Rattle.std.proofs.Common.{subst}
+use Rattle.version_graph.specs.Graph.{Graph}
+use Rattle.version_graph.specs.Stored.{IsStored}
+use Rattle.version_graph.proofs.LinkLemmas.{link_fits, allowed_told}
 use Rattle.version_graph.proofs.graph.Instance.allowed.Goals as goal
 
-pub returns-then-p-q : goal.returns-then-p-q
-returns-then-p-q c =
-    ap not (c.contains.ensures ∙ contains-pair _ c.args.p c.args.i c.args.q c.args.j
-    ∙ ap (λ g. has_pair g c.args.p c.args.i c.args.q c.args.j) c.self.view_is
-    ∙ sym (forbidden-below c.args.self.now c.args.p c.args.i c.args.q c.args.j c.if-p-q.true))
+pub allows-requires : goal.allows-requires
+allows-requires c = link_fits c.args.self.now c.self.inside.barred.items c.self.inside.links.items c.self.inside.total (subst (λ (h : Graph). IsStored h c.self.inside.barred.items c.self.inside.links.items c.self.inside.total) c.self.view_is c.self.invariant) c.args.p c.requires.first c.index.result.now c.index.ensures c.args.i c.args.q c.args.j c.requires.first_state c.requires.second_state
 
-pub returns-else-p-q : goal.returns-else-p-q
-returns-else-p-q c =
-    ap not (c.contains-else-p-q.ensures ∙ contains-pair _ c.args.q c.args.j c.args.p c.args.i
-    ∙ ap (λ g. has_pair g c.args.q c.args.j c.args.p c.args.i) c.self.view_is
-    ∙ sym (forbidden-above c.args.self.now c.args.p c.args.i c.args.q c.args.j c.if-p-q.false))
+pub returns : goal.returns
+returns c =
+    allowed_told c.args.self.now c.self.inside.barred.items c.self.inside.links.items c.self.inside.total (subst (λ (h : Graph). IsStored h c.self.inside.barred.items c.self.inside.links.items c.self.inside.total) c.self.view_is c.self.invariant) c.args.p c.requires.first c.index.result.now c.index.ensures c.args.i c.args.q c.args.j c.allows.result c.requires.first_state c.requires.second_state c.allows.ensures.none c.allows.ensures.some

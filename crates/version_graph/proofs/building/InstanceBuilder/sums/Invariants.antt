@@ -1,6 +1,6 @@
 use Rattle.std.proofs.Common.{◌≡◌, ◌≤◌, ◌*◌, ◌+◌, ◌^◌}
 use Rattle.version_graph.specs.Graph.{share, sum_below}
-use Rattle.version_graph.proofs.graph.Instance.sums.Given as goal
+use Rattle.version_graph.proofs.building.InstanceBuilder.sums.Given as goal
 
 abbrev pub invariant-loop-p : goal.invariant-loop-p
 invariant-loop-p l = record {
