@@ -51,7 +51,7 @@ fn two_roots(alloc: Global) -> Result<Instance, GraphFault> {
 }
 
 // two roots with one version each, each of which takes a version of the other that isn't there
-fn two_that_refuse(alloc: Global) -> Result<Instance, GraphFault> {
+pub(crate) fn two_that_refuse(alloc: Global) -> Result<Instance, GraphFault> {
     instance_of(
         alloc,
         &[2, 2],
@@ -61,7 +61,7 @@ fn two_that_refuse(alloc: Global) -> Result<Instance, GraphFault> {
 }
 
 // three roots with two versions each, each of which takes only the other version of those after it
-fn ring(alloc: Global) -> Result<Instance, GraphFault> {
+pub(crate) fn ring(alloc: Global) -> Result<Instance, GraphFault> {
     let pairs = [
         (0, 0, 1, 2),
         (0, 1, 1, 2),

@@ -27,6 +27,8 @@ mod reading_once;
 #[cfg(test)]
 mod registry_calls;
 #[cfg(test)]
+mod search_calls;
+#[cfg(test)]
 mod stores;
 #[cfg(test)]
 mod toml_view_calls;
