@@ -294,7 +294,7 @@ fn are_apart(instance: &Instance, p: u32, q: u32) -> bool
 }
 
 // whether no two last states are forbidden together
-fn is_plain(instance: &Instance) -> bool
+pub(crate) fn is_plain(instance: &Instance) -> bool
     ensures { IsTrue result → IsPlain instance.now }
 {
     for p in 0..instance.packages() {
