@@ -1,6 +1,6 @@
 //! Which states of a package make no difference to any other package.
-ghost use Rattle.std.specs.Prelude.{◌≡◌, ◌≢◌, ◌<◌, ◌≤◌, ◌+◌, ℕ, true, false, length, slice_index, IfOk, OnOk, MatchBool, MatchOption};
-ghost use Rattle.version_graph.specs.Graph.{packages, states, is_forbidden};
+ghost use Rattle.std.specs.Prelude.{◌≡◌, ◌<◌, ◌+◌, ℕ, true, length, slice_index, IfOk, OnOk, MatchBool, MatchOption};
+ghost use Rattle.version_graph.specs.Graph.{packages, states};
 ghost use Rattle.version_graph.specs.Domain.{has, IsFor};
 ghost use Rattle.graph_pruning.specs.Pruned.{SameIn, AreStanding};
 ghost use Rattle.graph_pruning.specs.Marked.{standing_in, HasRows};
@@ -128,43 +128,9 @@ fn are_equal(instance: &Instance, domains: &Domains, p: u32, i: u32, j: u32) -> 
 {
     let neighbours = instance.neighbours(p);
     for q in neighbours {
-        if !allow_alike(instance, domains, p, i, j, *q) {
+        if !instance.are_alike(p, i, j, *q, domains) {
             return false;
         }
     }
     true
-}
-
-/// Whether two states of p allow the same states of q's domain.
-fn allow_alike(instance: &Instance, domains: &Domains, p: u32, i: u32, j: u32, q: u32) -> bool
-    requires made { IsFor instance.now domains.now }
-    requires known { p < packages instance.now }
-    requires first { i < states instance.now p }
-    requires second { j < states instance.now p }
-    requires other { q < packages instance.now }
-    requires apart { p ≢ q }
-    ensures { MatchBool result
-        ((k : ℕ) → has domains.now q k ≡ true → is_forbidden instance.now p i q k ≡ is_forbidden instance.now p j q k)
-        ((k : ℕ) × (has domains.now q k ≡ true) × (is_forbidden instance.now p i q k ≢ is_forbidden instance.now p j q k)) }
-{
-    for k in 0..instance.states(q) {
-        if domains.has(q, k) && differ(instance, p, i, j, q, k) {
-            return false;
-        }
-    }
-    true
-}
-
-/// Whether one of the two states of p is allowed with the state k of q and the other isn't.
-fn differ(instance: &Instance, p: u32, i: u32, j: u32, q: u32, k: u32) -> bool
-    requires known { p < packages instance.now }
-    requires first { i < states instance.now p }
-    requires second { j < states instance.now p }
-    requires other { q < packages instance.now }
-    requires state { k < states instance.now q }
-    requires apart { p ≢ q }
-    ensures { MatchBool result (is_forbidden instance.now p i q k ≢ is_forbidden instance.now p j q k)
-        (is_forbidden instance.now p i q k ≡ is_forbidden instance.now p j q k) }
-{
-    instance.allowed(p, i, q, k) != instance.allowed(p, j, q, k)
 }

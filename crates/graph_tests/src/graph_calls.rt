@@ -266,14 +266,14 @@ fn a_ring_is_stable_and_empty_at_each_choice(rt: HostRuntime) -> Result<(), Fail
     Ok(())
 }
 
-fn leaf(state: Option<u32>) -> Node {
+pub(crate) fn leaf(state: Option<u32>) -> Node {
     Node {
         state,
         kind: NodeKind::Leaf,
     }
 }
 
-fn branch(state: Option<u32>, package: u32, children: u32) -> Node {
+pub(crate) fn branch(state: Option<u32>, package: u32, children: u32) -> Node {
     Node {
         state,
         kind: NodeKind::Branch { package, children },
@@ -308,7 +308,11 @@ pub(crate) fn is_plain(instance: &Instance) -> bool
 }
 
 // what the check answers, twice with the same scratch values
-fn verdict(alloc: Global, instance: &Instance, nodes: &[Node]) -> Result<Option<bool>, Fail> {
+pub(crate) fn verdict(
+    alloc: Global,
+    instance: &Instance,
+    nodes: &[Node],
+) -> Result<Option<bool>, Fail> {
     let mut log = Log::make(alloc);
     for node in nodes {
         log.push(*node)?;

@@ -1,7 +1,6 @@
 -- What a trail tells of the domains that it holds, and what closing them leaves.
-use Rattle.std.proofs.Common.{◌≡◌, ℕ, ◌≤◌, Bool, true, false, List, [], length, take, sym, ap, refl, ◌∙◌, arith}
+use Rattle.std.proofs.Common.{◌≡◌, ℕ, Bool, true, false, [], sym, ap, refl, ◌∙◌}
 use Rattle.std.proofs.lemmas.Bool.{and_from}
-use Rattle.std.proofs.lemmas.List.{length-take, take-take}
 use Rattle.version_graph.specs.Graph.{Graph, is_offered}
 use Rattle.version_graph.specs.Family.{Family, InClosure, LiesBetween, HasEmpty, under}
 use Rattle.version_graph.specs.Domain.{Rows, has}
@@ -30,13 +29,6 @@ closed_when_stable g old new b c = record {
 
 pub empty_when_emptied : (g : Graph) (old new : Family) → LiesBetween g old new → HasEmpty g old → HasEmpty g new
 empty_when_emptied g old new b e = empty_below g new old (below_within g new old b.within) e
-
--- what is noted first stays first
-pub earlier_trans : {X : Type 0} (a b c : List X) → take (length a) b ≡ a → take (length b) c ≡ b → take (length a) c ≡ a
-earlier_trans a b c h k =
-    let len : length (take (length a) b) ≡ length a = ap length h in
-    let le : length a ≤ length b = omega (arith, len, length-take (length a) b) in
-    sym (take-take (length a) (length b) c le) ∙ ap (take (length a)) k ∙ h
 
 -- what is closed in domains that a trail holds is closed where nothing is chosen
 pub closed_unchosen : (g : Graph) (d : Rows) (t : History) (p i : ℕ) → Holds g d t → InClosure g (has d) p i → InClosure g (under g []) p i

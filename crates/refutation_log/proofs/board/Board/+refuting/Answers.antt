@@ -7,7 +7,8 @@ use Rattle.refutation_log.specs.Found.{NoChildrenAt, ChildrenTake, IsSettledAs}
 use Rattle.refutation_log.specs.Scratch.{marks}
 use Rattle.version_graph.proofs.FamilyLemmas.{below_within, same_closure}
 use Rattle.graph_pruning.specs.Marked.{standing_in}
-use Rattle.refutation_log.proofs.Holding.{earlier_trans, same_left, closed_unchosen, settled_open, settled_shut}
+use Rattle.graph_pruning.proofs.CutLemmas.{earlier_first}
+use Rattle.refutation_log.proofs.Holding.{same_left, closed_unchosen, settled_open, settled_shut}
 use Rattle.refutation_log.proofs.Steps.{leaf_found, leaf_refused, branch_refused, none_left, no_child_without_state, no_child_past_states, no_child_that_refutes, no_child_after, child_found}
 use Rattle.refutation_log.proofs.Turns.{tree_of_branch, found_within, no_tree_without_node, no_child_without_node, tree_same, no_tree_same, tree_shorter, still_whole, crossed_off, marks_set, marks_back, branch_when_covered, branch_when_uncovered}
 use Rattle.refutation_log.proofs.board.Board.+refuting.Goals as goal
@@ -104,7 +105,7 @@ children-loop-left-preserved t c =
       extended = record {
         trail = r.trail ∙ e.trail;
         shut = r.shut ∙ e.shut;
-        missed = earlier_trans c.args.self.now.missed.notes c.loop-left.self.missed.notes c.cross_off.new.trail.notes e.missed (rw r.missed at c.cross_off.ensures.earlier);
+        missed = earlier_first c.args.self.now.missed.notes c.loop-left.self.missed.notes c.cross_off.new.trail.notes e.missed (rw r.missed at c.cross_off.ensures.earlier);
       };
       shorter = omega (arith, shorter, inv.shorter);
       none = λ others. inv.none (rw (left, c.in_ok-first.ensures.cases.0) (no_child_after _ _ _ _ c.args.p (c.loop-left.left - 1) c.in_ok-first.first.now c.in_ok-first.field-0-1.now c.in_ok-nodes.nodes.now c.in_ok-i.i tree others));
