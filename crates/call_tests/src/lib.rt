@@ -17,8 +17,6 @@ mod place_calls;
 #[cfg(test)]
 mod project_calls;
 #[cfg(test)]
-mod pruning_calls;
-#[cfg(test)]
 mod reading_once;
 #[cfg(test)]
 mod registry_calls;
