@@ -1,6 +1,6 @@
 use Rattle.std.proofs.Common.{◌≡◌, ◌≢◌, ◌<◌, ℕ, false}
 use Rattle.version_graph.specs.Graph.{packages, last, is_forbidden}
-use Rattle.call_tests.proofs.graph_calls.is_plain.Given as goal
+use Rattle.graph_tests.proofs.graph_calls.is_plain.Given as goal
 
 abbrev pub invariant-loop-p : goal.invariant-loop-p
 invariant-loop-p l =

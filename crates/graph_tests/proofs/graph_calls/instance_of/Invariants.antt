@@ -1,5 +1,5 @@
 use Rattle.std.proofs.Common.{◌≡◌}
-use Rattle.call_tests.proofs.graph_calls.instance_of.Given as goal
+use Rattle.graph_tests.proofs.graph_calls.instance_of.Given as goal
 
 abbrev pub invariant-loop-p : goal.invariant-loop-p
 invariant-loop-p l = l.builder.sizes ≡ l.sizes
