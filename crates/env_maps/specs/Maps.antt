@@ -9,7 +9,6 @@ use Rattle.pkg_world.specs.declared.place.Place.{Place}
 use Rattle.pkg_world.specs.declared.cause.Cause.{Cause}
 use Rattle.pkg_world.specs.declared.cause.Cause.TheVariants.{BadShape}
 use Rattle.project_file.specs.Said as project
-use Rattle.manifest_file.specs.Saying as manifest
 use Rattle.manifest_file.specs.Saying.{SaidStanza}
 use Rattle.manifest_file.specs.declared.origin.Origin.{Origin}
 use Rattle.manifest_file.specs.declared.origin.Origin.TheVariants.{Tree, Path as PathOrigin, Repo, Std}
@@ -65,14 +64,15 @@ own_of (Some name) (Some uuid) = Some (record { uuid = Some uuid; name = name })
 own_of (Some name) None = None
 own_of None uuid = None
 
--- the environment of a project and the stanzas of its manifest; a stanza's path that rises above the root is refused
-abbrev pub env_of : Place → Path → project.Said → Path → manifest.Said → Read Env
-env_of place file said path found =
-    at_file path (unless_escaping (first_escaping (folder_of path) found.stanzas)
-    (record { file = file; own = own_of said.name said.uuid; deps = said.deps; folder = folder_of path; stanzas = found.stanzas; depots = place.depots.items; stdlib = place.stdlib }))
+-- the environment of a project, by its own package and its dependencies, and of the stanzas of its manifest; a stanza's
+-- path that rises above the root is refused
+abbrev pub env_of : Place → Path → Option Id → List (List ℕ × List ℕ) → Path → List SaidStanza → Read Env
+env_of place file own deps path stanzas =
+    at_file path (unless_escaping (first_escaping (folder_of path) stanzas)
+    (record { file = file; own = own; deps = deps; folder = folder_of path; stanzas = stanzas; depots = place.depots.items; stdlib = place.stdlib }))
 
-abbrev pub env_at : Files → Place → Path → project.Said → Path → Read Env
-env_at files place file said path = then_ok (at_file path (manifest_in (holds path files))) (env_of place file said path)
+abbrev pub env_at : Files → Place → Path → Option Id → List (List ℕ × List ℕ) → Path → Read Env
+env_at files place file own deps path = then_ok (at_file path (manifest_in (holds path files))) (λ found. env_of place file own deps path found.stanzas)
 
 abbrev pub no_env : Place → Path → Env
 no_env place file = record { file = file; own = None; deps = []; folder = folder_of file; stanzas = []; depots = place.depots.items; stdlib = place.stdlib }
@@ -80,7 +80,7 @@ no_env place file = record { file = file; own = None; deps = []; folder = folder
 -- a project file that isn't there gives an environment without entries, whatever manifest lies beside it
 abbrev pub env_with : Files → Place → Path → Option project.Said → Read Env
 env_with files place file None = Ok (no_env place file)
-env_with files place file (Some said) = then_ok (at_file file (manifest_path files file said.manifest)) (env_at files place file said)
+env_with files place file (Some said) = then_ok (at_file file (manifest_path files file said.manifest)) (env_at files place file (own_of said.name said.uuid) said.deps)
 
 -- the environment of a project file: the file itself, then its manifest
 abbrev pub env_in : Files → Place → Path → Read Env

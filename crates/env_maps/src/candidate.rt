@@ -7,6 +7,7 @@ ghost use Rattle.project_places.specs.Files.{Loads};
 ghost use Rattle.project_places.specs.Faults.{ReadFaultRose};
 
 use crate::id::is_uuid;
+use crate::parts::{Parts, parts_of};
 use crate::spot::{Spot, spot_of};
 use pkg_world::{Name, NameIds, NormPath, Store};
 use project_file::Project;
@@ -136,12 +137,19 @@ fn candidate_of(entry: NormPath, file: &NormPath, project: Option<Project>) -> C
     ensures { result ≡ spec.candidate_of entry file.now (option_map said_project project) }
 {
     match project {
-        Some(Project { uuid, deps, .. }) => Candidate {
-            entry,
-            uuid: Some(uuid_or_made(file, uuid)),
-            deps: Some(deps),
-        },
+        Some(project) => candidate_with_parts(entry, file, parts_of(project)),
         None => bare(entry),
+    }
+}
+
+fn candidate_with_parts(entry: NormPath, file: &NormPath, parts: Parts) -> Candidate
+    ensures { result ≡ record { entry = entry; uuid = Some (spec.uuid_or_made file.now parts.uuid); deps = Some parts.deps.items } }
+{
+    let Parts { uuid, deps, .. } = parts;
+    Candidate {
+        entry,
+        uuid: Some(uuid_or_made(file, uuid)),
+        deps: Some(deps),
     }
 }
 

@@ -3,7 +3,7 @@ ghost use Rattle.std.specs.Prelude.{◌≡◌, ◌≤◌, ◌&&◌, ◌==◌, So
 ghost use Rattle.std.specs.Option.{option_copied};
 ghost use Rattle.std.specs.Str.{bytes_eq};
 ghost use Rattle.project_file.specs.Said.{said as said_project};
-ghost use Rattle.manifest_file.specs.Said.{said as said_manifest, said_stanza};
+ghost use Rattle.manifest_file.specs.Said.{said_stanza};
 ghost use Rattle.env_maps.specs.Maps as spec;
 ghost use Rattle.project_places.specs.Files.{Loads};
 ghost use Rattle.project_places.specs.Faults.{OnlyReadFault, NoReadFault, ReadFaultRose};
@@ -12,6 +12,7 @@ use crate::entry::{source_beside, stanza_entry};
 use crate::escaping::{first_escaping, path_refused};
 use crate::id::{Context, DepAnswer, Id, is_uuid};
 use crate::library::library_uuid;
+use crate::parts::{Parts, parts_of};
 use manifest_file::{Manifest, Origin, Stanza, Stanzas};
 use pkg_world::{Duplicate, Name, NameIds, NormPath, NormPaths, Place, Store};
 use project_file::Project;
@@ -57,6 +58,21 @@ impl Model for Own {
     ghost Value = { Id };
 
     ghost view = { λ a. record { uuid = Some a.uuid; name = a.name } };
+}
+
+/// What an environment keeps of a project file: the identity of its own package, and its dependencies.
+#[derive(Drop)]
+struct Kept {
+    own: Option<Own>,
+    deps: NameIds,
+}
+
+/// What an environment has of its place, and where its project file is or would be.
+#[derive(Drop)]
+struct Copies {
+    file: NormPath,
+    depots: NormPaths,
+    stdlib: Option<NormPath>,
 }
 
 impl ProjectEnv {
@@ -235,6 +251,16 @@ impl ProjectEnv {
     }
 }
 
+fn kept_of(project: Project) -> Kept
+    ensures { result ≡ record { own = spec.own_of project.name project.uuid; deps = project.deps } }
+{
+    let Parts { name, uuid, deps } = parts_of(project);
+    Kept {
+        own: own_of(name, uuid),
+        deps,
+    }
+}
+
 /// The identity of a project's own package, where the file has both name and identifier.
 fn own_of(name: Option<Name>, uuid: Option<Uuid>) -> Option<Own>
     ensures { result ≡ spec.own_of name uuid }
@@ -329,15 +355,12 @@ fn matches_std(origin: &Origin) -> bool
 fn empty(alloc: Global, place: &Place, file: &NormPath) -> Result<ProjectEnv, AllocError>
     ensures { IfOk result (λ env. env ≡ spec.no_env place.now file.now) }
 {
-    Ok(ProjectEnv {
-        file: file.copy(alloc)?,
+    let folder = file.folder(alloc)?;
+    let kept = Kept {
         own: None,
         deps: NameIds::make(alloc),
-        folder: file.folder(alloc)?,
-        stanzas: Stanzas::make(alloc),
-        depots: place.depots.copy(alloc)?,
-        stdlib: stdlib_of(alloc, place)?,
-    })
+    };
+    made(alloc, place, file, kept, folder, Stanzas::make(alloc))
 }
 
 /// The environment of a project with its manifest.
@@ -356,7 +379,7 @@ fn with_manifest<S: Store>(
     ensures other { S.write_faults store.new ≡ S.write_faults store.old }
 {
     match manifest_path(alloc, store, place, file, &project) {
-        Ok(path) => with_manifest_at(alloc, store, place, file, project, &path),
+        Ok(path) => with_manifest_at(alloc, store, place, file, kept_of(project), &path),
         Err(fault) => Err(fault),
     }
 }
@@ -366,39 +389,85 @@ fn with_manifest_at<S: Store>(
     store: &mut S,
     place: &Place,
     file: &NormPath,
-    project: Project,
+    kept: Kept,
     path: &NormPath,
 ) -> Result<ProjectEnv, EnvFault>
-    ensures told { IfSome (S.files store.old) (λ all. Loads (spec.env_at all place.now file.now (said_project project) path.now) result) }
+    ensures told { IfSome (S.files store.old) (λ all. Loads (spec.env_at all place.now file.now kept.own kept.deps.items path.now) result) }
     ensures fault { IfErr result (ReadFaultRose (S.read_faults store.old) (S.read_faults store.new)) }
     ensures files { S.files store.new ≡ S.files store.old }
     ensures later { S.read_faults store.old ≤ S.read_faults store.new }
     ensures other { S.write_faults store.new ≡ S.write_faults store.old }
 {
     match manifest_at(alloc, store, path) {
-        Ok(manifest) => with_stanzas(alloc, place, file, project, path, manifest),
+        Ok(manifest) => with_stanzas(alloc, place, file, kept, path, stanzas_of(manifest)),
         Err(fault) => Err(fault),
     }
 }
 
+/// The stanzas of a manifest; the rest of it is let go.
+fn stanzas_of(manifest: Manifest) -> Stanzas
+    ensures { result ≡ manifest.stanzas }
+{
+    let Manifest { stanzas, .. } = manifest;
+    stanzas
+}
+
 /// The environment, unless the path of a stanza rises above the root.
-#[tactic(auto, unfolding(project_file::specs::Said::said))]
 fn with_stanzas(
     alloc: Global,
     place: &Place,
     file: &NormPath,
-    project: Project,
+    kept: Kept,
     path: &NormPath,
-    manifest: Manifest,
+    stanzas: Stanzas,
 ) -> Result<ProjectEnv, EnvFault>
-    ensures told { Loads (spec.env_of place.now file.now (said_project project) path.now (said_manifest manifest)) result }
+    ensures told { Loads (spec.env_of place.now file.now kept.own kept.deps.items path.now (map said_stanza stanzas.items)) result }
     ensures fault { IfErr result NoReadFault }
 {
     let folder = path.folder(alloc)?;
-    match first_escaping(alloc, &folder, manifest.stanzas.items())? {
+    match first_escaping(alloc, &folder, stanzas.items())? {
         Some(name) => Err(path_refused(alloc, path, name)),
-        None => Ok(made(alloc, place, file, project, folder, manifest)?),
+        None => Ok(made(alloc, place, file, kept, folder, stanzas)?),
     }
+}
+
+fn made(
+    alloc: Global,
+    place: &Place,
+    file: &NormPath,
+    kept: Kept,
+    folder: NormPath,
+    stanzas: Stanzas,
+) -> Result<ProjectEnv, AllocError>
+    ensures { IfOk result (λ env. env ≡ record { file = file.now; own = kept.own; deps = kept.deps.items; folder = folder; stanzas = map said_stanza stanzas.items; depots = place.now.depots.items; stdlib = place.now.stdlib }) }
+{
+    let Copies {
+        file,
+        depots,
+        stdlib,
+    } = copies_of(alloc, place, file)?;
+    let Kept { own, deps } = kept;
+    Ok(ProjectEnv {
+        file,
+        own,
+        deps,
+        folder,
+        stanzas,
+        depots,
+        stdlib,
+    })
+}
+
+fn copies_of(alloc: Global, place: &Place, file: &NormPath) -> Result<Copies, AllocError>
+    ensures file { IfOk result (λ copies. copies.file ≡ file.now) }
+    ensures depots { IfOk result (λ copies. copies.depots.items ≡ place.now.depots.items) }
+    ensures stdlib { IfOk result (λ copies. copies.stdlib ≡ place.now.stdlib) }
+{
+    Ok(Copies {
+        file: file.copy(alloc)?,
+        depots: place.depots.copy(alloc)?,
+        stdlib: stdlib_of(alloc, place)?,
+    })
 }
 
 /// A copy of the path of the standard library folder, where there is one.
@@ -409,32 +478,4 @@ fn stdlib_of(alloc: Global, place: &Place) -> Result<Option<NormPath>, AllocErro
         Some(folder) => Ok(Some(folder.copy(alloc)?)),
         None => Ok(None),
     }
-}
-
-fn made(
-    alloc: Global,
-    place: &Place,
-    file: &NormPath,
-    project: Project,
-    folder: NormPath,
-    manifest: Manifest,
-) -> Result<ProjectEnv, AllocError>
-    ensures { IfOk result (λ env. env ≡ record { file = file.now; own = spec.own_of project.name project.uuid; deps = project.deps.items; folder = folder; stanzas = map said_stanza manifest.stanzas.items; depots = place.now.depots.items; stdlib = place.now.stdlib }) }
-{
-    let Manifest { stanzas, .. } = manifest;
-    let Project {
-        name,
-        uuid,
-        deps,
-        ..
-    } = project;
-    Ok(ProjectEnv {
-        file: file.copy(alloc)?,
-        own: own_of(name, uuid),
-        deps,
-        folder,
-        stanzas,
-        depots: place.depots.copy(alloc)?,
-        stdlib: stdlib_of(alloc, place)?,
-    })
 }

@@ -9,6 +9,7 @@ mod escaping;
 mod folder_env;
 mod id;
 mod library;
+mod parts;
 mod spot;
 
 pub use environment::ProjectEnv;
