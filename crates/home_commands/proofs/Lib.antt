@@ -1,1 +1,2 @@
 pub mod StanzaFound
+mod Phases

@@ -66,8 +66,8 @@ packed_line path = codes "packed " ++ (path_text path ++ 10 ∷ [])
 
 -- the lines of all stanzas, or of the dependencies
 abbrev pub package_lines : Bool → Both → List ℕ
-package_lines true both = flat_map stanza_line both.manifest.stanzas
-package_lines false both = flat_map (dep_line both.manifest.stanzas) both.project.deps
+package_lines true both = flat_map stanza_line both.stanzas
+package_lines false both = flat_map (dep_line both.stanzas) both.deps
 
 abbrev pub status_text : Bool → Both → List Path → List ℕ
 status_text all both paths = project_line both.file ++ (package_lines all both ++ flat_map packed_line paths)

@@ -93,7 +93,7 @@ verify_bearers files depots name list (One uuid tree) = in_folder files name lis
 verify_bearers files depots name list (Several least next) = Err (AmbiguousName least next)
 
 abbrev pub verify_of : Files → Place → List ℕ → Option (List ℕ) → Both → Result (List ℕ) Status
-verify_of files place name list both = verify_bearers files place.depots.items name list (bearers_in name both.manifest.stanzas)
+verify_of files place name list both = verify_bearers files place.depots.items name list (bearers_in name both.stanzas)
 
 abbrev pub verify_due : Files → Place → List ℕ → Option (List ℕ) → Result (List ℕ) Status
 verify_due files place name list = then_ok (both_in files place) (verify_of files place name list)

@@ -75,14 +75,13 @@ fn text_of(alloc: Global, all: bool, both: &Both, packed: &[NormPath]) -> Result
     Ok(text)
 }
 
-#[tactic(auto, unfolding(project_file::specs::Said::said))]
 fn push_packages(alloc: Global, text: &mut String, all: bool, both: &Both) -> Result<(), AllocError>
     ensures { OnOk result (string_bytes text.new ≡ string_bytes text.old ++ spec.package_lines all (seen_both both.now)) }
 {
-    let stanzas = both.manifest.stanzas.items();
+    let stanzas = both.stanzas.items();
     if all {
         push_stanzas(alloc, text, stanzas)
     } else {
-        push_deps(alloc, text, both.project.deps.items(), stanzas)
+        push_deps(alloc, text, both.deps.items(), stanzas)
     }
 }

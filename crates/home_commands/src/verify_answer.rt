@@ -51,14 +51,7 @@ pub fn verify<S: Store>(
     ensures other { S.write_faults store.new ≡ S.write_faults store.old }
 {
     match both_files(alloc, store, place) {
-        Ok(both) => verify_among(
-            alloc,
-            name,
-            list,
-            place,
-            both.manifest.stanzas.items(),
-            store,
-        ),
+        Ok(both) => verify_among(alloc, name, list, place, both.stanzas.items(), store),
         Err(status) => Err(status),
     }
 }
