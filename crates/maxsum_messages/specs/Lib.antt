@@ -1,0 +1,6 @@
+pub mod Field
+pub mod Post
+pub mod Greatest
+pub mod Round
+pub mod Belief
+pub mod Choice

@@ -1,0 +1,8 @@
+//! Messages between the packages of an instance, which say how much each state is worth to its neighbours;
+//! the beliefs that they add up to; and the choice of the package that is decided next.
+#![tactic(auto)]
+
+mod fields;
+mod grid;
+
+pub use fields::Fields;
