@@ -82,3 +82,24 @@ wide-pushed none f n size all last q h =
       | inl t ↦ rw (t.0) (length-replicate n none ∙ last ∙ ap size (sym t.1))
       | inr t ↦ rw (t.0) (all q (omega (arith, h, t.1)))
     ]
+
+-- what holds of each element, and of one more, holds of each with it pushed
+pub pushed-all : {A : Type 0} (d : A) (P : ℕ → A → Type 0) (xs : List A) (y : A) → ((q : ℕ) → q < length xs → P q (get_or xs q d)) → P (length xs) y →
+    (q : ℕ) → q < length xs + 1 → P q (get_or (xs ++ y ∷ []) q d)
+pushed-all d P xs y all last q h =
+    subst (P q) (sym (get_or-pushed xs y d q)) (elim (eqb_tells q (length xs)) [
+      | inl t ↦ rw (t.0) (subst (λ n. P n y) (sym t.1) last)
+      | inr t ↦ rw (t.0) (all q (omega (arith, h, t.1)))
+    ])
+
+-- the same of each element, past the end too
+pub pushed-each : {A : Type 0} (d : A) (P : A → Type 0) (xs : List A) (y : A) → ((q : ℕ) → P (get_or xs q d)) → P y → (q : ℕ) → P (get_or (xs ++ y ∷ []) q d)
+pushed-each d P xs y all last q = subst P (sym (get_or-pushed xs y d q)) (by_place (eqb q (length xs)))
+  where
+    by_place : (b : Bool) → P (cond b y (get_or xs q d))
+    by_place true = last
+    by_place false = all q
+
+-- the rows of a list of vectors with one more
+pub rows-pushed : {T Z : Type 0} (vs : List (Vec T Z)) (v : Vec T Z) → rows_of (vs ++ v ∷ []) ≡ rows_of vs ++ v.items ∷ []
+rows-pushed vs v = map-append (λ (x : Vec _ _). x.items) vs (v ∷ [])

@@ -3,7 +3,7 @@ use Rattle.std.specs.Prelude.{◌≡◌, ℕ, ◌<◌, List, [], length, slice_i
 use Rattle.version_graph.specs.Graph.{Graph, packages, states}
 
 -- the field of the state i of p; the zero weight where there is no such place
-unfoldable pub field : {W : Type 0} → W → List (List W) → ℕ → ℕ → W
+abbrev pub field : {W : Type 0} → W → List (List W) → ℕ → ℕ → W
 field none f p i = slice_index_or (slice_index_or f p []) i none
 
 -- a field for each state of the instance

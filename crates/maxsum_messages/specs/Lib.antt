@@ -4,3 +4,4 @@ pub mod Greatest
 pub mod Round
 pub mod Belief
 pub mod Choice
+pub mod Kept

@@ -20,7 +20,7 @@ abbrev pub said_to : {W : Type 0} → Post W → ℕ → List (List W)
 said_to m p = slice_index_or m.said p []
 
 -- the message to q from its neighbour in the place k, at the state j of q
-unfoldable pub message : {W : Type 0} → W → Post W → ℕ → ℕ → ℕ → W
+abbrev pub message : {W : Type 0} → W → Post W → ℕ → ℕ → ℕ → W
 message none m q k j = slice_index_or (slice_index_or (said_to m q) k []) j none
 
 -- the messages are those between the neighbours of the instance

@@ -2,7 +2,9 @@
 //! the beliefs that they add up to; and the choice of the package that is decided next.
 #![tactic(auto)]
 
+mod building;
 mod fields;
 mod grid;
+mod inbox;
 
 pub use fields::Fields;

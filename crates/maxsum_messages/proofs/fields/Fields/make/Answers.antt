@@ -28,7 +28,6 @@ loop-p-preserved g c =
     }
 
 pub invariant_of-result : goal.invariant_of-result
-unfolding field
 invariant_of-result g c = record { at = λ p i. subst (g.W.Weight.is_within (2 ^ 24)) (sym (c.loop-p.invariant.zero p i)) (g.met.W.Weight.within_more 0 (2 ^ 24) g.W.Weight.none g.met.W.Weight.none_within (omega arith)) }
 
 pub returns-clause-shape : goal.returns-clause-shape
@@ -37,5 +36,4 @@ returns-clause-shape g c =
     record { each = whole; wide = λ p h. c.loop-p.invariant.wide p (omega (arith, h, whole)) }
 
 pub returns-clause-zero : goal.returns-clause-zero
-unfolding field
 returns-clause-zero g c = c.loop-p.invariant.zero

@@ -15,7 +15,6 @@ after g c q j =
     ∙ cell-written g.W.Weight.none c.self.inside.grid c.args.p c.args.i c.args.w q j known there
 
 pub returns-clause-set : goal.returns-clause-set
-unfolding field
 returns-clause-set g c q j =
     after g c q j ∙ ap (λ f. cond (is_state q j c.args.p c.args.i) c.args.w (cell g.W.Weight.none f q j)) c.self.view_is
 
@@ -24,7 +23,6 @@ either P true v w h k = h
 either P false v w h k = k
 
 pub invariant_of-self : goal.invariant_of-self
-unfolding field
 invariant_of-self g c = record { at = λ q j.
     subst (g.W.Weight.is_within (2 ^ 24)) (sym (after g c q j))
     (either (g.W.Weight.is_within (2 ^ 24)) (is_state q j c.args.p c.args.i) c.args.w (cell g.W.Weight.none c.self.inside.grid q j) c.requires.small (c.self.invariant.at q j)) }
