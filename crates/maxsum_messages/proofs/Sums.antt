@@ -40,6 +40,12 @@ rising-by xs up k (suc d) h =
     let same : k + suc d ≡ suc (k + d) = omega arith in
     omega (arith, before, step, ap (λ n. get_or xs n 0) same)
 
+pub rising-ordered : (xs : List ℕ) → IsStrictlyIncreasing xs → (i j : ℕ) → i ≤ j → j < length xs → get_or xs i 0 ≤ get_or xs j 0
+rising-ordered xs up i j l h =
+    let same : i + (j - i) ≡ j = omega arith in
+    let far = rising-by xs up i (j - i) (omega (arith, h, same)) in
+    omega (arith, far, ap (λ n. get_or xs n 0) same)
+
 -- rising numbers below n that lack one of them are fewer than n
 pub rising-few : (xs : List ℕ) (n q : ℕ) → IsStrictlyIncreasing xs → ((k : ℕ) → k < length xs → get_or xs k 0 < n) → q < n → ((k : ℕ) → k < length xs → get_or xs k 0 ≡ q → ⊥) → length xs < n
 rising-few xs n q up below known lacks = by_case (cases_lt (length xs) n)

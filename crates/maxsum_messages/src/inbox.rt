@@ -87,6 +87,7 @@ impl<W: Weight> Inbox<W> {
         requires field_place { i < length (slice_index_or fields.now p []) }
         ensures belief { result ≡ belief W.none W.plus fields.now self.now p i }
         ensures small { W.is_within (2 ^ 52) result }
+        ensures part { W.is_within (2 ^ 24) (field W.none fields.now p i) }
     {
         fields.get(p, i).plus(self.sums.get(p as usize, i as usize))
     }

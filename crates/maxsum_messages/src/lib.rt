@@ -4,7 +4,9 @@
 
 mod building;
 mod fields;
+mod greatest;
 mod grid;
 mod inbox;
+mod saying;
 
 pub use fields::Fields;
