@@ -1,6 +1,7 @@
 -- A search for the greatest value, number by number.
 use Rattle.std.proofs.Common.{◌≡◌, ◌≢◌, ℕ, ◌+◌, ◌<◌, ◌≤◌, Bool, true, false, cond, ◌&&◌, not, refl, sym, ◌∙◌, subst, ap, arith, Option, None, Some, ◌⊎◌, inl, inr}
-use Rattle.std.proofs.lemmas.Bool.{cases_lt}
+use Rattle.std.proofs.lemmas.Bool.{cases_lt, lt-ltb, le-ltb}
+use Rattle.version_graph.specs.Graph.{Graph, is_forbidden}
 use Rattle.std.proofs.Common.{length, get_or, []}
 use Rattle.std.proofs.lemmas.List.{get_or_past}
 use Rattle.version_graph.specs.Domain.{Rows, has, row}
@@ -104,3 +105,20 @@ in-range d p i e =
 pub both-first : (a b : Bool) → (a && b) ≡ true → a ≡ true
 both-first true b e = refl
 both-first false b e = cc
+
+-- a pair is forbidden in whichever order it is named
+pub forbidden-turned : (g : Graph) (p i q j : ℕ) → p ≢ q → is_forbidden g p i q j ≡ is_forbidden g q j p i
+unfolding is_forbidden
+forbidden-turned g p i q j apart =
+    elim (cases_lt p q) [
+      | inl h ↦ rw (lt-ltb p q h, le-ltb q p (omega arith)) refl
+      | inr h ↦ let above : q < p = omega (arith, h, apart) in rw (le-ltb p q h, lt-ltb q p above) refl
+    ]
+
+pub greatest-same : {W : Type 0} (cmp : W → W → Ordering) (test : ℕ → Bool) (value other : ℕ → W) (best : W) → ((i : ℕ) → test i ≡ true → value i ≡ other i) → IsGreatest cmp test value best → IsGreatest cmp test other best
+greatest-same cmp test value other best same b = record {
+  place = b.place;
+  passes = b.passes;
+  here = b.here ∙ same b.place b.passes;
+  most = λ i t. subst (λ w. is_gt (cmp w best) ≡ false) (same i t) (b.most i t);
+}

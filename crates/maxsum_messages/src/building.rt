@@ -36,7 +36,7 @@ pub(crate) fn greatest_size(sizes: &[u32]) -> u32
 fn neighbours_of(alloc: Global, instance: &Instance, p: u32) -> Result<Vec<u32>, AllocError>
     requires known { p < packages instance.now }
     requires few { packages instance.now ≤ 4096 }
-    ensures senders { IfOk result (λ row. AreSenders (packages instance.now) row.items) }
+    ensures senders { IfOk result (λ row. AreSenders (packages instance.now) p row.items) }
     ensures listed { IfOk result (λ row. IsListOf (are_neighbours instance.now p) row.items) }
 {
     let neighbours = instance.neighbours(p);
@@ -47,7 +47,7 @@ fn neighbours_of(alloc: Global, instance: &Instance, p: u32) -> Result<Vec<u32>,
 /// For each package its neighbours, rising.
 pub(crate) fn senders_of(alloc: Global, instance: &Instance) -> Result<Vec<Vec<u32>>, AllocError>
     ensures each { IfOk result (λ rows. length rows.items ≡ packages instance.now) }
-    ensures senders { IfOk result (λ rows. (p : ℕ) → p < packages instance.now → AreSenders (packages instance.now) (slice_index_or (rows_of rows.items) p [])) }
+    ensures senders { IfOk result (λ rows. (p : ℕ) → p < packages instance.now → AreSenders (packages instance.now) p (slice_index_or (rows_of rows.items) p [])) }
     ensures listed { IfOk result (λ rows. (p : ℕ) → p < packages instance.now → IsListOf (are_neighbours instance.now p) (slice_index_or (rows_of rows.items) p [])) }
 {
     let mut rows = Vec::new(alloc);

@@ -67,7 +67,7 @@ impl<W: Weight> Inbox<W> {
     pub(crate) fn senders(&self, q: u32) -> &[u32]
         requires { q < length self.now.sizes }
         ensures list { result.now ≡ senders_of self.now q }
-        ensures senders { AreSenders (length self.now.sizes) (senders_of self.now q) }
+        ensures senders { AreSenders (length self.now.sizes) q (senders_of self.now q) }
     {
         self.senders[q as usize].as_slice()
     }

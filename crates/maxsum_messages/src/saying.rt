@@ -7,7 +7,7 @@ ghost use Rattle.maxsum_messages.specs.Field.{field, AreFieldsFor};
 ghost use Rattle.maxsum_messages.specs.Post.{senders_of, IsPostFor};
 ghost use Rattle.maxsum_messages.specs.Greatest.{IsGreatest};
 ghost use Rattle.maxsum_messages.specs.Round.{weight_for, IsMessage};
-ghost use Rattle.maxsum_messages.specs.Kept.{AreSenders};
+ghost use Rattle.maxsum_messages.specs.Kept.{AreSenders, AreShaped, HasRoom};
 
 use crate::fields::Fields;
 use crate::greatest::{best_partner, best_state};
@@ -134,5 +134,111 @@ fn lower<W: Weight>(
     for j in 0..size {
         let weight = lowered(raw[j as usize], top, domains.has(q, j));
         grid.set(k, j as usize, weight);
+    }
+}
+
+/// Room for what the states of one package weigh, and for what is said to those of another.
+#[derive(Drop)]
+pub(crate) struct Desk<W> {
+    pub(crate) weights: Vec<W>,
+    pub(crate) raw: Vec<W>,
+}
+
+/// Writes the message from p to q in the row k.
+pub(crate) fn say<W: Weight>(
+    inbox: &Inbox<W>,
+    instance: &Instance,
+    fields: &Fields<W>,
+    domains: &Domains,
+    p: u32,
+    q: u32,
+    k: usize,
+    desk: &mut Desk<W>,
+    grid: &mut Grid<W>,
+)
+    requires first { p < packages instance.now }
+    requires second { q < packages instance.now }
+    requires apart { p ≢ q }
+    requires messages { IsPostFor instance.now inbox.now }
+    requires fields { AreFieldsFor instance.now fields.now }
+    requires made { IsFor instance.now domains.now }
+    requires closed { IsStable instance.now (has domains.now) }
+    requires filled { IsFilled instance.now (has domains.now) }
+    requires room { states instance.now p ≤ length desk.old.weights.items }
+    requires raw_room { states instance.now q ≤ length desk.old.raw.items }
+    requires grid_row { k < length grid.old }
+    requires grid_places { length (slice_index_or grid.old k []) ≡ states instance.now q }
+    ensures same { length desk.new.weights.items ≡ length desk.old.weights.items }
+    ensures raw_same { length desk.new.raw.items ≡ length desk.old.raw.items }
+    ensures each { length grid.new ≡ length grid.old }
+    ensures places { (r : ℕ) → length (slice_index_or grid.new r []) ≡ length (slice_index_or grid.old r []) }
+    ensures others { (r j : ℕ) → r ≢ k → field W.none grid.new r j ≡ field W.none grid.old r j }
+    ensures said { IsMessage W.none W.plus W.minus W.clip W.cmp instance.now (has domains.now) (weight_for W.none W.plus fields.now inbox.now q p) p q (field W.none grid.new k) }
+    ensures small { (j : ℕ) → j < states instance.now q → W.is_within (2 ^ 40) (field W.none grid.new k j) }
+{
+    weigh(inbox, fields, p, q, instance.states(p), &mut desk.weights);
+    gather(instance, domains, p, q, desk.weights.as_slice(), &mut desk.raw);
+    let size = instance.states(q);
+    let top = best_state(domains, q, size, desk.raw.as_slice());
+    lower(domains, q, k, size, desk.raw.as_slice(), top, grid);
+}
+
+/// Writes all messages to q.
+fn hear<W: Weight>(
+    inbox: &Inbox<W>,
+    instance: &Instance,
+    fields: &Fields<W>,
+    domains: &Domains,
+    q: u32,
+    desk: &mut Desk<W>,
+    grid: &mut Grid<W>,
+)
+    requires known { q < packages instance.now }
+    requires messages { IsPostFor instance.now inbox.now }
+    requires fields { AreFieldsFor instance.now fields.now }
+    requires made { IsFor instance.now domains.now }
+    requires closed { IsStable instance.now (has domains.now) }
+    requires filled { IsFilled instance.now (has domains.now) }
+    requires room { HasRoom instance.now.sizes desk.old.weights.items desk.old.raw.items }
+    requires rows { length grid.old ≡ length (senders_of inbox.now q) }
+    requires grid_places { (k : ℕ) → k < length grid.old → length (slice_index_or grid.old k []) ≡ states instance.now q }
+    ensures room { HasRoom instance.now.sizes desk.new.weights.items desk.new.raw.items }
+    ensures each { length grid.new ≡ length grid.old }
+    ensures places { (r : ℕ) → length (slice_index_or grid.new r []) ≡ length (slice_index_or grid.old r []) }
+    ensures said { (k : ℕ) → k < length (senders_of inbox.now q) → let p = slice_index (senders_of inbox.now q) k in IsMessage W.none W.plus W.minus W.clip W.cmp instance.now (has domains.now) (weight_for W.none W.plus fields.now inbox.now q p) p q (field W.none grid.new k) }
+    ensures small { (k j : ℕ) → W.is_within (2 ^ 40) (field W.none grid.new k j) }
+{
+    let senders = inbox.senders(q);
+    for k in 0..senders.len() {
+        say(
+            inbox, instance, fields, domains, senders[k], q, k, desk, grid,
+        );
+    }
+}
+
+/// Writes all messages of a round.
+pub(crate) fn hear_all<W: Weight>(
+    inbox: &Inbox<W>,
+    instance: &Instance,
+    fields: &Fields<W>,
+    domains: &Domains,
+    desk: &mut Desk<W>,
+    next: &mut Vec<Grid<W>>,
+)
+    requires messages { IsPostFor instance.now inbox.now }
+    requires fields { AreFieldsFor instance.now fields.now }
+    requires made { IsFor instance.now domains.now }
+    requires closed { IsStable instance.now (has domains.now) }
+    requires filled { IsFilled instance.now (has domains.now) }
+    requires room { HasRoom instance.now.sizes desk.old.weights.items desk.old.raw.items }
+    requires shaped { AreShaped inbox.now.sizes inbox.now.senders next.old.items }
+    ensures room { HasRoom instance.now.sizes desk.new.weights.items desk.new.raw.items }
+    ensures shaped { AreShaped inbox.now.sizes inbox.now.senders next.new.items }
+    ensures said { (q k : ℕ) → q < packages instance.now → k < length (senders_of inbox.now q) → let p = slice_index (senders_of inbox.now q) k in IsMessage W.none W.plus W.minus W.clip W.cmp instance.now (has domains.now) (weight_for W.none W.plus fields.now inbox.now q p) p q (field W.none (slice_index_or next.new.items q []) k) }
+    ensures small { (q k j : ℕ) → W.is_within (2 ^ 40) (field W.none (slice_index_or next.new.items q []) k j) }
+{
+    for q in 0..instance.packages() {
+        let grid = &mut next[q as usize];
+        hear(inbox, instance, fields, domains, q, desk, grid);
     }
 }

@@ -9,8 +9,8 @@ returns-clause-senders c =
     let list = c.neighbours-neighbours.result.now in
     let told = c.neighbours-neighbours.ensures in
     let fewer = rising-few list (packages c.args.instance.now) c.args.p told.list.rising told.known c.requires.known told.apart in
-    subst (AreSenders (packages c.args.instance.now)) (sym c.in_ok-row.ensures.items)
-    (record { rising = told.list.rising; known = told.known; few = omega (arith, fewer, c.requires.few) })
+    subst (AreSenders (packages c.args.instance.now) c.args.p) (sym c.in_ok-row.ensures.items)
+    (record { rising = told.list.rising; known = told.known; apart = told.apart; few = omega (arith, fewer, c.requires.few) })
 
 pub returns-clause-listed : goal.returns-clause-listed
 returns-clause-listed c = subst (IsListOf (are_neighbours c.args.instance.now c.args.p)) (sym c.in_ok-row.ensures.items) c.neighbours-neighbours.ensures.list

@@ -15,8 +15,9 @@ loop-p-preserved c =
     let long : length old ≡ c.loop-p.p = length-map c.loop-p.rows.items (λ (v : Vec _ _). v.items) ∙ c.loop-p.invariant.each in
     record {
       each = ap length c.in_ok-push.ensures.items ∙ length-append c.loop-p.rows.items (c.in_ok-neighbours_of.field-0 ∷ []) ∙ ap (λ n. n + 1) c.loop-p.invariant.each;
-      senders = λ q h. subst (λ rows. AreSenders (packages g) (get_or rows q [])) (sym pushed)
-          (pushed-all [] (λ (n : ℕ) xs. AreSenders (packages g) xs) old _ (λ r l. c.loop-p.invariant.senders r (omega (arith, l, long))) c.in_ok-neighbours_of.ensures.senders q (omega (arith, h, long)));
+      senders = λ q h. subst (λ rows. AreSenders (packages g) q (get_or rows q [])) (sym pushed)
+          (pushed-all [] (λ n xs. AreSenders (packages g) n xs) old _ (λ r l. c.loop-p.invariant.senders r (omega (arith, l, long)))
+          (subst (λ n. AreSenders (packages g) n c.in_ok-neighbours_of.field-0.items) (sym long) c.in_ok-neighbours_of.ensures.senders) q (omega (arith, h, long)));
       listed = λ q h. subst (λ rows. IsListOf (are_neighbours g q) (get_or rows q [])) (sym pushed)
           (pushed-all [] (λ n xs. IsListOf (are_neighbours g n) xs) old _ (λ r l. c.loop-p.invariant.listed r (omega (arith, l, long)))
           (subst (λ n. IsListOf (are_neighbours g n) c.in_ok-neighbours_of.field-0.items) (sym long) c.in_ok-neighbours_of.ensures.listed) q (omega (arith, h, long)));

@@ -23,7 +23,7 @@ invariant_of-result g c =
     let same = c.as_slice-3.ensures.value in
     record {
       each = many;
-      senders = λ q h. subst (λ n. AreSenders n (get_or rows q [])) (sym count) (told.senders q (omega (arith, h, count)));
+      senders = λ q h. subst (λ n. AreSenders n q (get_or rows q [])) (sym count) (told.senders q (omega (arith, h, count)));
       shaped = shaped;
       added = added.each ∙ ap length same;
       wide = λ q h. added.wide q (omega (arith, h, ap length same)) ∙ ap (λ xs. get_or xs q 0) same;
