@@ -1,5 +1,6 @@
 //! Rows of weights.
-ghost use Rattle.std.specs.Prelude.{◌≡◌, ◌<◌, ◌∷◌, ◌++◌, [], ℕ, length, slice_index_or, slice_set, OnOk, IfOk, replicate};
+ghost use Rattle.std.specs.Prelude.{◌≡◌, ◌≢◌, ◌<◌, ◌∷◌, ◌++◌, [], ℕ, length, slice_index_or, slice_set, OnOk, IfOk, replicate};
+ghost use Rattle.maxsum_messages.specs.Field.{field};
 
 use lex_weights::Weight;
 use std::alloc::{AllocError, Global};
@@ -62,6 +63,38 @@ impl<W: Weight> Grid<W> {
     {
         let row = &mut self.rows[r];
         row[c] = w;
+    }
+
+    /// Makes every weight zero.
+    pub(crate) fn clear(&mut self)
+        ensures each { length self.new ≡ length self.old }
+        ensures places { (r : ℕ) → length (slice_index_or self.new r []) ≡ length (slice_index_or self.old r []) }
+        ensures zero { (r c : ℕ) → field W.none self.new r c ≡ W.none }
+    {
+        for r in 0..self.len() {
+            self.clear_row(r);
+        }
+    }
+
+    /// Makes every weight of the row r zero.
+    fn clear_row(&mut self, r: usize)
+        requires { r < length self.old }
+        ensures each { length self.new ≡ length self.old }
+        ensures places { (q : ℕ) → length (slice_index_or self.new q []) ≡ length (slice_index_or self.old q []) }
+        ensures others { (q c : ℕ) → q ≢ r → field W.none self.new q c ≡ field W.none self.old q c }
+        ensures zero { (c : ℕ) → field W.none self.new r c ≡ W.none }
+    {
+        for c in 0..self.width(r) {
+            self.set(r, c, W::zero());
+        }
+    }
+
+    /// How many weights the row r has.
+    fn width(&self, r: usize) -> usize
+        requires { r < length self.now }
+        ensures { result ≡ length (slice_index_or self.now r []) }
+    {
+        self.rows[r].len()
     }
 }
 

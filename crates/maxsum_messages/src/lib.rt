@@ -7,6 +7,8 @@ mod fields;
 mod greatest;
 mod grid;
 mod inbox;
+mod messages;
 mod saying;
 
 pub use fields::Fields;
+pub use messages::Messages;
