@@ -1,6 +1,6 @@
 -- Which package is decided next, and in which order its states are tried. (own rule, after Pkg's resolver)
-use Rattle.std.specs.Prelude.{◌≡◌, ◌≢◌, ℕ, ◌+◌, ◌<◌, Bool, true, false, List, length, slice_index, Contains}
-use Rattle.std.specs.Ordering.{is_gt, is_lt, ordering_then, nat_cmp}
+use Rattle.std.specs.Prelude.{◌≡◌, ◌≢◌, ℕ, ◌+◌, ◌<◌, Bool, true, false, List, length, slice_index, Contains, ◌⊎◌}
+use Rattle.std.specs.Ordering.{is_gt, ordering_then, nat_cmp}
 use Rattle.std.specs.declared.cmp.Ordering.{Ordering}
 use Rattle.std.specs.declared.cmp.Ordering.TheVariants.{Less}
 use Rattle.version_graph.specs.Family.{Family}
@@ -21,13 +21,21 @@ module _ {W : Type 0} (cmp : W → W → Ordering) where
     pub next : (i : ℕ) → test i ≡ true → i ≢ first → is_gt (cmp (value i) (value second)) ≡ false
     pub here : lead ≡ minus (value first) (value second)
 
+  -- at most one number passes, or the lead isn't above the other one
+  abbrev pub Trails : (W → W → W) → (ℕ → Bool) → (ℕ → W) → W → Type 0
+  Trails minus test value other = IsDecided test ⊎ ((lead : W) × IsLead minus test value lead × (is_gt (cmp lead other) ≡ false))
+
+  -- at most one number passes, or the lead is below the other one
+  abbrev pub TrailsClearly : (W → W → W) → (ℕ → Bool) → (ℕ → W) → W → Type 0
+  TrailsClearly minus test value other = IsDecided test ⊎ ((lead : W) × IsLead minus test value lead × (is_gt (cmp other lead) ≡ true))
+
   -- the package below n whose lead is the greatest, the least number on a tie
   pub record IsChosen (minus : W → W → W) (n : ℕ) (d : Family) (value : ℕ → ℕ → W) (p : ℕ) : Type 0 where
     pub known : p < n
     pub lead : W
     pub led : IsLead minus (d p) (value p) lead
-    pub most : (q : ℕ) (other : W) → q < n → IsLead minus (d q) (value q) other → is_gt (cmp other lead) ≡ false
-    pub least : (q : ℕ) (other : W) → q < p → IsLead minus (d q) (value q) other → is_lt (cmp other lead) ≡ true
+    pub most : (q : ℕ) → q < n → Trails minus (d q) (value q) lead
+    pub least : (q : ℕ) → q < p → TrailsClearly minus (d q) (value q) lead
 
   -- whether the number i is tried before j: its value is greater, or they are equal and the number is greater
   abbrev pub IsBefore : (ℕ → W) → ℕ → ℕ → Type 0

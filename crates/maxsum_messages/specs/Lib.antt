@@ -5,3 +5,4 @@ pub mod Round
 pub mod Belief
 pub mod Choice
 pub mod Kept
+pub mod Ranking

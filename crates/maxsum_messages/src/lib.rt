@@ -8,7 +8,9 @@ mod greatest;
 mod grid;
 mod inbox;
 mod messages;
+mod order;
 mod saying;
 
 pub use fields::Fields;
 pub use messages::Messages;
+pub use order::Order;
