@@ -1,5 +1,5 @@
 -- A search for the greatest value, number by number.
-use Rattle.std.proofs.Common.{◌≡◌, ◌≢◌, ℕ, ◌+◌, ◌<◌, ◌≤◌, Bool, true, false, cond, ◌&&◌, not, refl, sym, ◌∙◌, subst, ap, arith, Option, None, Some, ◌⊎◌, inl, inr}
+use Rattle.std.proofs.Common.{◌≡◌, ◌≢◌, ℕ, ◌+◌, ◌<◌, ◌≤◌, Bool, true, false, cond, ◌&&◌, not, refl, sym, ◌∙◌, subst, ap, arith, Option, None, Some, MatchOption, IfSome, ◌⊎◌, inl, inr}
 use Rattle.std.proofs.lemmas.Bool.{cases_lt, lt-ltb, le-ltb}
 use Rattle.version_graph.specs.Graph.{Graph, is_forbidden}
 use Rattle.std.proofs.Common.{length, get_or, []}
@@ -25,7 +25,7 @@ module _ {W : Type 0} (cmp : W → W → Ordering) (test : ℕ → Bool) (value 
   IsBestBelow n (Some best) = IsGreatestBelow n best
 
   module _ (total : IsTotalOrder cmp) where
-    not_above : (a b : W) → is_gt (cmp a b) ≡ true → is_gt (cmp b a) ≡ false
+    pub not_above : (a b : W) → is_gt (cmp a b) ≡ true → is_gt (cmp b a) ≡ false
     not_above a b h = by_answer (cmp a b) h (total.antisymm b a)
       where
         by_answer : (r : Ordering) → is_gt r ≡ true → cmp b a ≡ ordering_reverse r → is_gt (cmp b a) ≡ false
@@ -33,7 +33,7 @@ module _ {W : Type 0} (cmp : W → W → Ordering) (test : ℕ → Bool) (value 
         by_answer Equal h e = cc
         by_answer Greater h e = ap is_gt e
 
-    passed : (n i : ℕ) → i < n + 1 → (i < n) ⊎ (i ≡ n)
+    pub passed : (n i : ℕ) → i < n + 1 → (i < n) ⊎ (i ≡ n)
     passed n i h = elim (cases_lt i n) [
         | inl l ↦ inl l
         | inr l ↦ inr (omega (arith, h, l))
@@ -122,3 +122,15 @@ greatest-same cmp test value other best same b = record {
   here = b.here ∙ same b.place b.passes;
   most = λ i t. subst (λ w. is_gt (cmp w best) ≡ false) (same i t) (b.most i t);
 }
+
+-- ---- where the values are places
+
+module _ (cmp : ℕ → ℕ → Ordering) (test : ℕ → Bool) where
+  pub best-known : (n m : ℕ) (best : Option ℕ) → IsBestBelow cmp test (λ i. i) n best → n ≤ m → IfSome best (λ k. k < m)
+  best-known n m None b h = tt
+  best-known n m (Some k) b h = omega (arith, b.below, b.here, h)
+
+  pub best-found : (total : IsTotalOrder cmp) (n : ℕ) (best : Option ℕ) → IsBestBelow cmp test (λ i. i) n best → ((i : ℕ) → test i ≡ true → i < n) →
+      MatchOption best ((i : ℕ) → test i ≡ true → ⊥) (λ k. IsGreatest cmp test (λ i. i) k)
+  best-found total n None b all = λ i t. b i (all i t) t
+  best-found total n (Some k) b all = best-end cmp test (λ i. i) total n k b all

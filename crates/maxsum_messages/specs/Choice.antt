@@ -37,12 +37,20 @@ module _ {W : Type 0} (cmp : W → W → Ordering) where
     pub most : (q : ℕ) → q < n → Trails minus (d q) (value q) lead
     pub least : (q : ℕ) → q < p → TrailsClearly minus (d q) (value q) lead
 
-  -- whether the number i is tried before j: its value is greater, or they are equal and the number is greater
+  -- where the number i stands to j: first the one with the greater value, of equal values the greater number
+  abbrev pub standing : (ℕ → W) → ℕ → ℕ → Ordering
+  standing value i j = ordering_then (cmp (value j) (value i)) (nat_cmp j i)
+
+  -- the number i is tried before j
   abbrev pub IsBefore : (ℕ → W) → ℕ → ℕ → Type 0
-  IsBefore value i j = ordering_then (cmp (value j) (value i)) (nat_cmp j i) ≡ Less
+  IsBefore value i j = standing value i j ≡ Less
+
+  -- each number is tried before all later ones
+  abbrev pub IsFalling : (ℕ → W) → List ℕ → Type 0
+  IsFalling value xs = (k l : ℕ) → k < l → l < length xs → IsBefore value (slice_index xs k) (slice_index xs l)
 
   -- the numbers that pass, each once, the greatest value first and then the greater number
   pub record AreInOrder (test : ℕ → Bool) (value : ℕ → W) (xs : List ℕ) : Type 0 where
     pub passing : (k : ℕ) → k < length xs → test (slice_index xs k) ≡ true
     pub whole : (i : ℕ) → test i ≡ true → Contains xs i
-    pub falling : (k l : ℕ) → k < l → l < length xs → IsBefore value (slice_index xs k) (slice_index xs l)
+    pub falling : IsFalling value xs

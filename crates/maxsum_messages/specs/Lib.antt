@@ -6,3 +6,4 @@ pub mod Belief
 pub mod Choice
 pub mod Kept
 pub mod Ranking
+pub mod Searched

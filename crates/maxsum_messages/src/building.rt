@@ -46,6 +46,7 @@ fn neighbours_of(alloc: Global, instance: &Instance, p: u32) -> Result<Vec<u32>,
 
 /// For each package its neighbours, rising.
 pub(crate) fn senders_of(alloc: Global, instance: &Instance) -> Result<Vec<Vec<u32>>, AllocError>
+    ensures few { packages instance.now ≤ 4096 }
     ensures each { IfOk result (λ rows. length rows.items ≡ packages instance.now) }
     ensures senders { IfOk result (λ rows. (p : ℕ) → p < packages instance.now → AreSenders (packages instance.now) p (slice_index_or (rows_of rows.items) p [])) }
     ensures listed { IfOk result (λ rows. (p : ℕ) → p < packages instance.now → IsListOf (are_neighbours instance.now p) (slice_index_or (rows_of rows.items) p [])) }

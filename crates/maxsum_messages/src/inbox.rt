@@ -63,6 +63,21 @@ impl<W: Weight> Inbox<W> {
         self.sizes.as_slice()
     }
 
+    /// How many packages there are.
+    pub(crate) fn len(&self) -> u32
+        ensures { result ≡ length self.now.sizes }
+    {
+        self.sizes.len() as u32
+    }
+
+    /// How many states p has.
+    pub(crate) fn size(&self, p: u32) -> u32
+        requires { p < length self.now.sizes }
+        ensures { result ≡ slice_index self.now.sizes p }
+    {
+        self.sizes[p as usize]
+    }
+
     /// The neighbours of q, rising.
     pub(crate) fn senders(&self, q: u32) -> &[u32]
         requires { q < length self.now.sizes }

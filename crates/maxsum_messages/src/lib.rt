@@ -3,6 +3,7 @@
 #![tactic(auto)]
 
 mod building;
+mod choosing;
 mod fields;
 mod greatest;
 mod grid;

@@ -1,16 +1,20 @@
 //! The messages: what neighbours say to each other, round by round, and what is believed then.
-ghost use Rattle.std.specs.Prelude.{◌≡◌, ◌<◌, ◌^◌, ℕ, [], length, slice_index, slice_index_or, IfOk};
+ghost use Rattle.std.specs.Prelude.{◌≡◌, ◌<◌, ◌^◌, ℕ, [], length, slice_index, slice_index_or, IfOk, IfSome, MatchOption, ◌≤◌};
 ghost use Rattle.version_graph.specs.Domain.{has, IsFor};
 ghost use Rattle.version_graph.specs.Family.{IsStable, IsFilled};
 ghost use Rattle.maxsum_messages.specs.Field.{field, AreFieldsFor};
 ghost use Rattle.maxsum_messages.specs.Post.{IsPostFor, IsSilent, SameSenders};
 ghost use Rattle.maxsum_messages.specs.Round.{IsRound};
 ghost use Rattle.maxsum_messages.specs.Belief.{belief};
+ghost use Rattle.maxsum_messages.specs.Choice.{IsDecided, IsChosen, AreInOrder};
+ghost use Rattle.maxsum_messages.specs.Kept.{AreAligned};
 
 use crate::building::greatest_size;
+use crate::choosing::{fill, most_decisive};
 use crate::fields::Fields;
 use crate::grid::{Grid, zeros};
 use crate::inbox::Inbox;
+use crate::order::Order;
 use crate::saying::{Desk, hear_all};
 use lex_weights::Weight;
 use std::alloc::{AllocError, Global};
@@ -95,6 +99,31 @@ impl<W: Weight> Messages<W> {
         ensures small { W.is_within (2 ^ 52) result }
     {
         self.inbox.belief(fields, p, i)
+    }
+
+    /// The package whose best belief is the furthest above its second best, the least number on a tie. The
+    /// states of its domain are left in the order in which they are tried: by belief, the greatest first,
+    /// and of equal beliefs the greater number first. None comes exactly where no domain has two states. It
+    /// takes no memory.
+    pub fn choose(
+        &self,
+        fields: &Fields<W>,
+        domains: &Domains,
+        order: &mut Order,
+    ) -> Option<u32>
+        requires aligned { AreAligned self.now.sizes fields.now domains.now }
+        requires room { (p : ℕ) → p < length self.now.sizes → slice_index self.now.sizes p ≤ order.old.room }
+        ensures answer { MatchOption result ((p : ℕ) → p < length self.now.sizes → IsDecided (has domains.now p)) (IsChosen W.cmp W.minus (length self.now.sizes) (has domains.now) (belief W.none W.plus fields.now self.now)) }
+        ensures order { IfSome result (λ p. AreInOrder W.cmp (has domains.now p) (belief W.none W.plus fields.now self.now p) order.new.states) }
+        ensures room { order.old.room ≤ order.new.room }
+    {
+        match most_decisive(&self.inbox, fields, domains) {
+            Some(chosen) => {
+                fill(&self.inbox, fields, domains, chosen, &mut order.states);
+                Some(chosen)
+            }
+            None => None,
+        }
     }
 }
 

@@ -1,12 +1,10 @@
 //! The order in which the states of a package are tried.
-ghost use Rattle.std.specs.Prelude.{◌≡◌, ◌≢◌, ◌<◌, ◌≤◌, ℕ, IfOk, IsTrue, ◌↔◌};
-ghost use Rattle.std.specs.Ordering.{ordering_then, nat_cmp};
+ghost use Rattle.std.specs.Prelude.{◌≡◌, IfOk};
+ghost use Rattle.std.specs.Ordering.{is_lt, ordering_then, nat_cmp};
 ghost use Rattle.maxsum_messages.specs.Ranking.{IsOrderFor};
-ghost use Rattle.maxsum_messages.specs.Choice.{IsBefore};
 
 use lex_weights::Weight;
 use std::alloc::{AllocError, Global};
-use std::cmp::Ordering;
 use std::marker::Model;
 use version_graph::Instance;
 
@@ -44,11 +42,7 @@ impl Order {
 
 /// Whether the state i with the first belief is tried before the state j with the second one.
 pub(crate) fn is_before<W: Weight>(first: W, i: u32, second: W, j: u32) -> bool
-    ensures { IsTrue result ↔ (ordering_then (W.cmp second first) (nat_cmp j i) ≡ Ordering.Less) }
+    ensures { result ≡ is_lt (ordering_then (W.cmp second first) (nat_cmp j i)) }
 {
-    match second.cmp(&first) {
-        Ordering::Less => true,
-        Ordering::Equal => j < i,
-        Ordering::Greater => false,
-    }
+    second.cmp(&first).then(j.cmp(&i)).is_lt()
 }

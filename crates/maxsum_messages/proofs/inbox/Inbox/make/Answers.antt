@@ -22,6 +22,7 @@ invariant_of-result g c =
     let added = c.in_ok-sums.ensures in
     let same = c.as_slice-3.ensures.value in
     record {
+      packages = omega (arith, count, c.in_ok-senders.ensures.few);
       each = many;
       senders = λ q h. subst (λ n. AreSenders n q (get_or rows q [])) (sym count) (told.senders q (omega (arith, h, count)));
       shaped = shaped;
