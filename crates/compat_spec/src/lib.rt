@@ -11,8 +11,6 @@ pub mod part;
 pub mod range;
 pub mod range_set;
 pub mod spec;
-#[cfg(test)]
-mod tests;
 
 pub use allowed::Allowed;
 pub use fault::SpecFault;

@@ -10,8 +10,6 @@ mod laws;
 mod objects;
 mod packages;
 mod slugs;
-#[cfg(test)]
-mod tests;
 mod trees;
 
 pub use checksum::crc32c;

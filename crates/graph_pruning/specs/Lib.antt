@@ -1,2 +1,9 @@
 pub mod Closing
 pub mod Spread
+pub mod Pruned
+pub mod Reduced
+pub mod Marked
+pub mod Reaching
+pub mod Classing
+pub mod Parting
+pub mod Exchange

@@ -2,7 +2,22 @@
 #![tactic(auto)]
 
 mod closing;
-#[cfg(test)]
-mod tests;
+mod cutting;
+mod equality;
+mod kept;
+mod laws;
+mod pruning;
+mod reaching;
+mod reducing;
 
 pub use closing::{Closed, close, undo_to};
+pub use cutting::{cross_off, cut_to};
+pub use equality::classes;
+pub use kept::{Classes, Kept};
+pub use laws::{
+    equal_states_exchange, one_pruning, pruning_keeps_closures, pruning_keeps_solutions,
+    reduced_is_whole, unkept_can_be_absent,
+};
+pub use pruning::{Pruned, prune};
+pub use reaching::drop_unreachable;
+pub use reducing::{Reduced, reduce};

@@ -13,6 +13,3 @@ pub use fault::VersionFault;
 pub use ident::{Ident, Idents, Word};
 pub use print::VersionText;
 pub use version::Version;
-
-#[cfg(test)]
-mod tests;

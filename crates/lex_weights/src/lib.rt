@@ -4,8 +4,6 @@
 
 mod level;
 mod lex;
-#[cfg(test)]
-mod tests;
 mod weight;
 
 pub use level::Level;

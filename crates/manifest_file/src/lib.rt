@@ -20,8 +20,6 @@ mod resolving;
 mod sorting;
 mod stanza;
 mod stanza_table;
-#[cfg(test)]
-mod tests;
 mod written;
 
 pub use fault::ManifestFault;

@@ -6,7 +6,7 @@ use Rattle.std.specs.Ordering.{is_gt}
 use Rattle.std.specs.declared.cmp.Ordering.{Ordering}
 use Rattle.std.specs.Cmp.{IsTotalOrder, upto, tied_itself}
 use Rattle.version_graph.specs.Family.{Family}
-use Rattle.maxsum_messages.specs.Choice.{IsDecided, IsLead, IsChosen, Trails, TrailsClearly}
+use Rattle.maxsum_messages.specs.Choice.{IsSingle, IsLead, IsChosen, Trails, TrailsClearly}
 use Rattle.maxsum_messages.specs.Searched.{HasLead, leading, package_of, is_skipped}
 use Rattle.maxsum_messages.specs.Greatest.{IsGreatest}
 use Rattle.maxsum_messages.proofs.Best.{not_above, passed}
@@ -20,7 +20,7 @@ module _ {W : Type 0} (cmp : W → W → Ordering) (minus : W → W → W) (d : 
     pub least : (q : ℕ) → q < p → TrailsClearly cmp minus (d q) (value q) lead
 
   abbrev pub IsLedBelow : ℕ → Option (ℕ × W) → Type 0
-  IsLedBelow n None = (q : ℕ) → q < n → IsDecided (d q)
+  IsLedBelow n None = (q : ℕ) → q < n → IsSingle (d q)
   IsLedBelow n (Some best) = IsChosenBelow n best.0 best.1
 
   module _ (total : IsTotalOrder cmp) where
@@ -63,7 +63,7 @@ module _ {W : Type 0} (cmp : W → W → Ordering) (minus : W → W → W) (d : 
       }
 
     pub led-more : (n : ℕ) (best : Option (ℕ × W)) (lead : Option W) → IsLedBelow n best → HasLead cmp minus (d n) (value n) lead → IsLedBelow (n + 1) (leading cmp best n lead)
-    led-more n None None b h = below_next (λ q. IsDecided (d q)) n b h
+    led-more n None None b h = below_next (λ q. IsSingle (d q)) n b h
     led-more n None (Some lead) b h = record {
         known = omega arith;
         led = h;
@@ -78,7 +78,7 @@ module _ {W : Type 0} (cmp : W → W → Ordering) (minus : W → W → W) (d : 
       }
     led-more n (Some best) (Some lead) b h = compared n best lead b h (is_gt (cmp lead best.1)) refl
 
-  pub led-end : (n m : ℕ) (best : Option (ℕ × W)) → IsLedBelow n best → n ≡ m → MatchOption (package_of best) ((q : ℕ) → q < m → IsDecided (d q)) (IsChosen cmp minus m d value)
+  pub led-end : (n m : ℕ) (best : Option (ℕ × W)) → IsLedBelow n best → n ≡ m → MatchOption (package_of best) ((q : ℕ) → q < m → IsSingle (d q)) (IsChosen cmp minus m d value)
   led-end n m None b e = λ q h. b q (omega (arith, h, e))
   led-end n m (Some best) b e = record {
     known = omega (arith, b.known, e);

@@ -7,7 +7,7 @@ use Rattle.std.proofs.Math.Seq.{get_or-append_seam}
 use Rattle.std.proofs.lemmas.List.{length-append, length-replicate}
 use Rattle.std.specs.declared.vec.Vec.{Vec}
 use Rattle.version_graph.specs.Graph.{is_state}
-use Rattle.version_graph.specs.Stored.{rows_of}
+use Rattle.maxsum_messages.specs.Rows.{rows_of}
 use Rattle.maxsum_messages.specs.Field.{field}
 
 -- the place i of the row p, or d where there is none

@@ -6,8 +6,8 @@ use Rattle.std.specs.declared.cmp.Ordering.TheVariants.{Less}
 use Rattle.version_graph.specs.Family.{Family}
 
 -- at most one number passes
-abbrev pub IsDecided : (ℕ → Bool) → Type 0
-IsDecided test = (i j : ℕ) → test i ≡ true → test j ≡ true → i ≡ j
+abbrev pub IsSingle : (ℕ → Bool) → Type 0
+IsSingle test = (i j : ℕ) → test i ≡ true → test j ≡ true → i ≡ j
 
 module _ {W : Type 0} (cmp : W → W → Ordering) where
   -- how far the best of two or more values is above the second best
@@ -23,11 +23,11 @@ module _ {W : Type 0} (cmp : W → W → Ordering) where
 
   -- at most one number passes, or the lead isn't above the other one
   abbrev pub Trails : (W → W → W) → (ℕ → Bool) → (ℕ → W) → W → Type 0
-  Trails minus test value other = IsDecided test ⊎ ((lead : W) × IsLead minus test value lead × (is_gt (cmp lead other) ≡ false))
+  Trails minus test value other = IsSingle test ⊎ ((lead : W) × IsLead minus test value lead × (is_gt (cmp lead other) ≡ false))
 
   -- at most one number passes, or the lead is below the other one
   abbrev pub TrailsClearly : (W → W → W) → (ℕ → Bool) → (ℕ → W) → W → Type 0
-  TrailsClearly minus test value other = IsDecided test ⊎ ((lead : W) × IsLead minus test value lead × (is_gt (cmp other lead) ≡ true))
+  TrailsClearly minus test value other = IsSingle test ⊎ ((lead : W) × IsLead minus test value lead × (is_gt (cmp other lead) ≡ true))
 
   -- the package below n whose lead is the greatest, the least number on a tie
   pub record IsChosen (minus : W → W → W) (n : ℕ) (d : Family) (value : ℕ → ℕ → W) (p : ℕ) : Type 0 where

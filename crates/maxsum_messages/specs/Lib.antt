@@ -1,3 +1,4 @@
+pub mod Rows
 pub mod Field
 pub mod Post
 pub mod Greatest

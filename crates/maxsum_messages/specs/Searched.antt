@@ -2,7 +2,7 @@
 use Rattle.std.specs.Prelude.{◌≡◌, ℕ, ◌<◌, ◌≤◌, Bool, true, false, ◌==◌, Option, None, Some, if◌then◌else◌, List, length, slice_index, Contains}
 use Rattle.std.specs.Ordering.{is_gt}
 use Rattle.std.specs.declared.cmp.Ordering.{Ordering}
-use Rattle.maxsum_messages.specs.Choice.{IsDecided, IsLead, IsBefore, IsFalling}
+use Rattle.maxsum_messages.specs.Choice.{IsSingle, IsLead, IsBefore, IsFalling}
 
 -- whether the number is the one that is passed over
 abbrev pub is_skipped : Option ℕ → ℕ → Bool
@@ -11,7 +11,7 @@ is_skipped (Some k) i = i == k
 
 -- the lead of the best value, or none where at most one number passes
 abbrev pub HasLead : {W : Type 0} → (W → W → Ordering) → (W → W → W) → (ℕ → Bool) → (ℕ → W) → Option W → Type 0
-HasLead cmp minus test value None = IsDecided test
+HasLead cmp minus test value None = IsSingle test
 HasLead cmp minus test value (Some lead) = IsLead cmp minus test value lead
 
 -- the package with the greater lead; the first one on a tie

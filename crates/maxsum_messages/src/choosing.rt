@@ -4,7 +4,7 @@ ghost use Rattle.std.specs.Ordering.{is_gt, is_lt};
 ghost use Rattle.version_graph.specs.Domain.{has, row};
 ghost use Rattle.maxsum_messages.specs.Belief.{belief};
 ghost use Rattle.maxsum_messages.specs.Greatest.{IsGreatest, raised};
-ghost use Rattle.maxsum_messages.specs.Choice.{IsDecided, IsChosen, IsFalling, AreInOrder, standing};
+ghost use Rattle.maxsum_messages.specs.Choice.{IsSingle, IsChosen, IsFalling, AreInOrder, standing};
 ghost use Rattle.maxsum_messages.specs.Searched.{is_skipped, leading, package_of, HasLead, AreInOrderBelow, IsSplit};
 ghost use Rattle.maxsum_messages.specs.Kept.{AreAligned};
 
@@ -152,7 +152,7 @@ pub(crate) fn most_decisive<W: Weight>(
     domains: &Domains,
 ) -> Option<u32>
     requires { AreAligned inbox.now.sizes fields.now domains.now }
-    ensures { MatchOption result ((p : ℕ) → p < length inbox.now.sizes → IsDecided (has domains.now p)) (IsChosen W.cmp W.minus (length inbox.now.sizes) (has domains.now) (belief W.none W.plus fields.now inbox.now)) }
+    ensures { MatchOption result ((p : ℕ) → p < length inbox.now.sizes → IsSingle (has domains.now p)) (IsChosen W.cmp W.minus (length inbox.now.sizes) (has domains.now) (belief W.none W.plus fields.now inbox.now)) }
 {
     let mut best = None;
     for p in 0..inbox.len() {

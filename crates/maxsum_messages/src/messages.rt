@@ -6,7 +6,7 @@ ghost use Rattle.maxsum_messages.specs.Field.{field, AreFieldsFor};
 ghost use Rattle.maxsum_messages.specs.Post.{IsPostFor, IsSilent, SameSenders};
 ghost use Rattle.maxsum_messages.specs.Round.{IsRound};
 ghost use Rattle.maxsum_messages.specs.Belief.{belief};
-ghost use Rattle.maxsum_messages.specs.Choice.{IsDecided, IsChosen, AreInOrder};
+ghost use Rattle.maxsum_messages.specs.Choice.{IsSingle, IsChosen, AreInOrder};
 ghost use Rattle.maxsum_messages.specs.Kept.{AreAligned};
 
 use crate::building::greatest_size;
@@ -113,7 +113,7 @@ impl<W: Weight> Messages<W> {
     ) -> Option<u32>
         requires aligned { AreAligned self.now.sizes fields.now domains.now }
         requires room { (p : ℕ) → p < length self.now.sizes → slice_index self.now.sizes p ≤ order.old.room }
-        ensures answer { MatchOption result ((p : ℕ) → p < length self.now.sizes → IsDecided (has domains.now p)) (IsChosen W.cmp W.minus (length self.now.sizes) (has domains.now) (belief W.none W.plus fields.now self.now)) }
+        ensures answer { MatchOption result ((p : ℕ) → p < length self.now.sizes → IsSingle (has domains.now p)) (IsChosen W.cmp W.minus (length self.now.sizes) (has domains.now) (belief W.none W.plus fields.now self.now)) }
         ensures order { IfSome result (λ p. AreInOrder W.cmp (has domains.now p) (belief W.none W.plus fields.now self.now p) order.new.states) }
         ensures room { order.old.room ≤ order.new.room }
     {

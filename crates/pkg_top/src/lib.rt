@@ -2,25 +2,9 @@
 #![tactic(auto)]
 
 mod early;
-#[cfg(test)]
-mod offers_tests;
 mod place;
-#[cfg(test)]
-mod place_tests;
-#[cfg(test)]
-mod refusal_tests;
-#[cfg(test)]
-mod run_tests;
-#[cfg(test)]
-mod status_tests;
 mod top;
-#[cfg(test)]
-mod verify_tests;
 mod which;
-#[cfg(test)]
-mod which_tests;
-#[cfg(test)]
-mod words_tests;
 
 pub use command_answers::{Difference, Ended, Status, Told};
 pub use place::{PlaceFault, place_from};

@@ -13,8 +13,6 @@ mod place;
 mod sink;
 mod store;
 mod sure;
-#[cfg(test)]
-mod tests;
 mod text;
 mod tree;
 mod tree_id;

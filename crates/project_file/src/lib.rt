@@ -9,8 +9,6 @@ mod reading;
 mod source;
 mod spec_text;
 mod tables;
-#[cfg(test)]
-mod tests;
 mod writes;
 
 pub use fault::ProjectFault;

@@ -3,7 +3,5 @@
 
 mod once;
 mod seen;
-#[cfg(test)]
-mod tests;
 
 pub use once::ReadOnce;

@@ -1,23 +1,16 @@
 -- What a trail tells of the domains that it holds, and what closing them leaves.
-use Rattle.std.proofs.Common.{◌≡◌, ℕ, ◌<◌, ◌≤◌, Bool, true, false, not, ◌&&◌, ◌||◌, ◌==◌, nat_lt, List, [], length, take, sym, ap, refl, ◌∙◌, arith}
-use Rattle.std.proofs.lemmas.Bool.{and_parts, both_ways, eqb-true, eq-eqb, false_from_ne_true, lt-ltb, ltb-true}
+use Rattle.std.proofs.Common.{◌≡◌, ℕ, ◌≤◌, Bool, true, false, List, [], length, take, sym, ap, refl, ◌∙◌, arith}
+use Rattle.std.proofs.lemmas.Bool.{and_from}
 use Rattle.std.proofs.lemmas.List.{length-take, take-take}
-use Rattle.version_graph.specs.Graph.{Graph, states, is_offered}
-use Rattle.version_graph.specs.Family.{Family, InClosure, LiesBetween, HasEmpty, narrowed, under}
+use Rattle.version_graph.specs.Graph.{Graph, is_offered}
+use Rattle.version_graph.specs.Family.{Family, InClosure, LiesBetween, HasEmpty, under}
 use Rattle.version_graph.specs.Domain.{Rows, has}
 use Rattle.version_graph.specs.Noted.{History, Holds, left_by, is_noted}
 use Rattle.graph_pruning.specs.Closing.{IsClosedFrom}
 use Rattle.refutation_log.specs.Found.{IsClosed, IsSettledAs}
-use Rattle.refutation_log.proofs.Below.{IsBelow, below_within, empty_below}
-
--- a state of the domains isn't forbidden alone
-pub offered : (g : Graph) (d : Rows) (t : History) (p i : ℕ) → Holds g d t → has d p i ≡ true → is_offered g p i ≡ true
-unfolding left_by
-offered g d t p i h e = (and_parts _ _ (sym (h.left p i) ∙ e)).0
-
-pub offered_state : (g : Graph) (p i : ℕ) → is_offered g p i ≡ true → i < states g p
-unfolding is_offered
-offered_state g p i e = ltb-true _ _ (and_parts _ _ (and_parts _ _ e).1).0
+use Rattle.version_graph.proofs.FamilyLemmas.{below_within, same_closure}
+use Rattle.version_graph.proofs.TrailLemmas.{held_offered}
+use Rattle.refutation_log.proofs.Below.{empty_below}
 
 -- equal notes leave equal domains
 pub same_left : (g : Graph) (d e : Rows) (s t : History) → Holds g d s → Holds g e t → t.notes ≡ s.notes → has e ≡ has d
@@ -25,27 +18,6 @@ same_left g d e s t h k n = λ x p i. each p i x
   where
     each : (p i : ℕ) → has e p i ≡ has d p i
     each p i = k.left p i ∙ ap (λ notes. left_by g notes p i) n ∙ sym (h.left p i)
-
--- where a domain of the closure is empty, all are
-pub none_closed : (g : Graph) (f : Family) (p i : ℕ) → HasEmpty g f → InClosure g f p i → ⊥
-none_closed g f p i e k = go (e.place == p) refl
-  where
-    go : (b : Bool) → e.place == p ≡ b → ⊥
-    go true same = let at : e.place ≡ p = eqb-true _ _ same in e.none i (rw at k)
-    go false apart =
-        let m = k.stable.meets p i e.place k.here e.known (λ same. both_ways _ apart (eq-eqb e.place p same)) in
-        e.none m.partner (record { family = k.family; stable = k.stable; within = k.within; here = m.there })
-
--- the closure within the old domains is the one within the new ones
-pub same_closure : (g : Graph) (old new : Family) → LiesBetween g old new → IsBelow g old new
-same_closure g old new b = record {
-  below = λ p i k. record {
-    family = k.family;
-    stable = k.stable;
-    here = k.here;
-    within = record { at = λ q j h. b.whole q j (record { family = k.family; stable = k.stable; within = k.within; here = h }) };
-  };
-}
 
 pub closed_when_stable : (g : Graph) (old new : Family) → LiesBetween g old new → IsClosedFrom g old new → IsClosed g new
 closed_when_stable g old new b c = record {
@@ -66,17 +38,10 @@ earlier_trans a b c h k =
     let le : length a ≤ length b = omega (arith, len, length-take (length a) b) in
     sym (take-take (length a) (length b) c le) ∙ ap (take (length a)) k ∙ h
 
--- the domain of a package that lacks a state, with its states crossed off
-pub cut_to_nothing : (g : Graph) (d : Rows) (t : History) (p i : ℕ) → Holds g d t → has d p i ≡ false → (q j : ℕ) → has d q j && not (q == p && nat_lt j (states g p)) ≡ narrowed (has d) p i q j
-cut_to_nothing g d t p i h lacks q j = go (q == p) (has d q j) refl refl
-  where
-    go : (b c : Bool) → q == p ≡ b → has d q j ≡ c → c && not (b && nat_lt j (states g p)) ≡ c && (not b || (j == i))
-    go b false same here = refl
-    go false true same here = refl
-    go true true same here =
-        let there : has d p j ≡ true = let at : q ≡ p = eqb-true _ _ same in rw at at here in
-        let below = offered_state g p j (offered g d t p j h there) in
-        ap not (lt-ltb _ _ below) ∙ sym (false_from_ne_true _ (λ e. let at : j ≡ i = eqb-true _ _ e in both_ways _ lacks (rw at at there)))
+-- what is closed in domains that a trail holds is closed where nothing is chosen
+pub closed_unchosen : (g : Graph) (d : Rows) (t : History) (p i : ℕ) → Holds g d t → InClosure g (has d) p i → InClosure g (under g []) p i
+closed_unchosen g d t p i h k =
+    (below_within g (has d) (under g []) (record { at = λ q j here. and_from (is_offered g q j) true (held_offered g d t h q j here) refl })).below p i k
 
 pub settled_open : (g : Graph) (f : Family) (b : Bool) → b ≡ true → IsSettledAs g f b → IsClosed g f
 settled_open g f true e s = s

@@ -5,3 +5,5 @@ pub mod Steps
 pub mod Holding
 pub mod Turns
 pub mod Whole
+pub mod Standing
+pub mod Renumbering

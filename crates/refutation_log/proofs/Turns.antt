@@ -6,56 +6,56 @@ use Rattle.std.proofs.Math.Seq.{set-set}
 use Rattle.refutation_log.specs.declared.node.Node.{Node}
 use Rattle.refutation_log.specs.declared.node.NodeKind.TheVariants.{Branch}
 use Rattle.version_graph.specs.Graph.{Graph, packages, is_state}
-use Rattle.version_graph.specs.Family.{Family, InClosure, narrowed}
+use Rattle.version_graph.specs.Family.{Family, InClosure, narrowed, IsBelow}
 use Rattle.refutation_log.specs.Tree.{preorder}
 use Rattle.refutation_log.specs.Within.{choose}
 use Rattle.refutation_log.specs.Found.{TreeAt, NoTreeAt, NoChildrenAt, ChildrenTake, BranchAt, NoBranchAt}
-use Rattle.refutation_log.proofs.Below.{IsBelow, refutes_within}
+use Rattle.refutation_log.proofs.Below.{refutes_within}
 use Rattle.refutation_log.proofs.Steps.{branch_found, branch_refused, no_tree_at_end, no_child_at_end, uncovered}
 
-pub tree_within : (g : Graph) (inner outer : Family) (ch : ℕ → Bool) (nodes rest : List Node) → IsBelow g inner outer → TreeAt g outer ch nodes rest → TreeAt g inner ch nodes rest
-tree_within g inner outer ch nodes rest b t = record {
+pub tree_within : (g : Graph) (st : ℕ → ℕ → ℕ) (inner outer : Family) (ch : ℕ → Bool) (nodes rest : List Node) → IsBelow g inner outer → TreeAt g st outer ch nodes rest → TreeAt g st inner ch nodes rest
+tree_within g st inner outer ch nodes rest b t = record {
   state = t.state;
   tree = t.tree;
   listed = t.listed;
-  refutes = refutes_within g inner outer ch b t.tree t.refutes;
+  refutes = refutes_within g st inner outer ch b t.tree t.refutes;
 }
 
-pub no_tree_within : (g : Graph) (inner outer : Family) (ch : ℕ → Bool) (nodes : List Node) → IsBelow g outer inner → NoTreeAt g outer ch nodes → NoTreeAt g inner ch nodes
-no_tree_within g inner outer ch nodes b n = record { none = λ rest t. n.none rest (tree_within g outer inner ch nodes rest b t) }
+pub no_tree_within : (g : Graph) (st : ℕ → ℕ → ℕ) (inner outer : Family) (ch : ℕ → Bool) (nodes : List Node) → IsBelow g outer inner → NoTreeAt g st outer ch nodes → NoTreeAt g st inner ch nodes
+no_tree_within g st inner outer ch nodes b n = record { none = λ rest t. n.none rest (tree_within g st outer inner ch nodes rest b t) }
 
-pub no_tree_without_node : (g : Graph) (d : Family) (ch : ℕ → Bool) (nodes : List Node) → length nodes ≡ 0 → NoTreeAt g d ch nodes
-no_tree_without_node g d ch [] e = no_tree_at_end g d ch
-no_tree_without_node g d ch (n ∷ ns) e = absurd (omega arith)
+pub no_tree_without_node : (g : Graph) (st : ℕ → ℕ → ℕ) (d : Family) (ch : ℕ → Bool) (nodes : List Node) → length nodes ≡ 0 → NoTreeAt g st d ch nodes
+no_tree_without_node g st d ch [] e = no_tree_at_end g st d ch
+no_tree_without_node g st d ch (n ∷ ns) e = absurd (omega arith)
 
-pub tree_of_branch : {X : Type 0} (now : X → List Node) (g : Graph) (d : Family) (ch : ℕ → Bool) (node : Node) (nodes rest : List Node) (p n : ℕ) (o : Option X) → nodes ≡ node ∷ rest → node.kind ≡ Branch p n → MatchOption o (NoBranchAt g d ch p n rest) (λ x. BranchAt g d ch p n rest (now x)) → MatchOption o (NoTreeAt g d ch nodes) (λ x. TreeAt g d ch nodes (now x))
-tree_of_branch now g d ch node nodes rest p n None e k none = rw e (branch_refused g d ch node rest p n k none)
-tree_of_branch now g d ch node nodes rest p n (Some x) e k b = rw e (branch_found g d ch node rest (now x) p n k b)
+pub tree_of_branch : {X : Type 0} (now : X → List Node) (g : Graph) (st : ℕ → ℕ → ℕ) (d : Family) (ch : ℕ → Bool) (node : Node) (nodes rest : List Node) (p n : ℕ) (o : Option X) → nodes ≡ node ∷ rest → node.kind ≡ Branch p n → MatchOption o (NoBranchAt g st d ch p n rest) (λ x. BranchAt g st d ch p n rest (now x)) → MatchOption o (NoTreeAt g st d ch nodes) (λ x. TreeAt g st d ch nodes (now x))
+tree_of_branch now g st d ch node nodes rest p n None e k none = rw e (branch_refused g st d ch node rest p n k none)
+tree_of_branch now g st d ch node nodes rest p n (Some x) e k b = rw e (branch_found g st d ch node rest (now x) p n k b)
 
 -- what was found within smaller closed domains
-pub found_within : {X : Type 0} (now : X → List Node) (g : Graph) (outer inner : Family) (ch : ℕ → Bool) (nodes : List Node) (o : Option X) → IsBelow g inner outer → IsBelow g outer inner → MatchOption o (NoTreeAt g inner ch nodes) (λ x. TreeAt g inner ch nodes (now x)) → MatchOption o (NoTreeAt g outer ch nodes) (λ x. TreeAt g outer ch nodes (now x))
-found_within now g outer inner ch nodes None b a none = no_tree_within g outer inner ch nodes b none
-found_within now g outer inner ch nodes (Some x) b a t = tree_within g outer inner ch nodes (now x) a t
+pub found_within : {X : Type 0} (now : X → List Node) (g : Graph) (st : ℕ → ℕ → ℕ) (outer inner : Family) (ch : ℕ → Bool) (nodes : List Node) (o : Option X) → IsBelow g inner outer → IsBelow g outer inner → MatchOption o (NoTreeAt g st inner ch nodes) (λ x. TreeAt g st inner ch nodes (now x)) → MatchOption o (NoTreeAt g st outer ch nodes) (λ x. TreeAt g st outer ch nodes (now x))
+found_within now g st outer inner ch nodes None b a none = no_tree_within g st outer inner ch nodes b none
+found_within now g st outer inner ch nodes (Some x) b a t = tree_within g st outer inner ch nodes (now x) a t
 
-pub no_child_without_node : (g : Graph) (d : Family) (ch : ℕ → Bool) (p n : ℕ) (nodes : List Node) → length nodes ≡ 0 → NoChildrenAt g d ch p (n + 1) nodes
-no_child_without_node g d ch p n [] e = no_child_at_end g d ch p n
-no_child_without_node g d ch p n (x ∷ xs) e = absurd (omega arith)
+pub no_child_without_node : (g : Graph) (st : ℕ → ℕ → ℕ) (d : Family) (ch : ℕ → Bool) (p n : ℕ) (nodes : List Node) → length nodes ≡ 0 → NoChildrenAt g st d ch p (n + 1) nodes
+no_child_without_node g st d ch p n [] e = no_child_at_end g st d ch p n
+no_child_without_node g st d ch p n (x ∷ xs) e = absurd (omega arith)
 
 -- ---- marks
 
 -- the same domains, marks and nodes under other names
-pub tree_same : (g : Graph) (d e : Family) (ch dh : ℕ → Bool) (p i : ℕ) (nodes others rest : List Node) → d ≡ e → ch ≡ dh → nodes ≡ others → TreeAt g (narrowed d p i) ch nodes rest → TreeAt g (narrowed e p i) dh others rest
-tree_same g d e ch dh p i nodes others rest de cd same t =
-    subst (λ f. TreeAt g (narrowed f p i) dh others rest) de (subst (λ h. TreeAt g (narrowed d p i) h others rest) cd (subst (λ ns. TreeAt g (narrowed d p i) ch ns rest) same t))
+pub tree_same : (g : Graph) (st : ℕ → ℕ → ℕ) (d e : Family) (ch dh : ℕ → Bool) (p i : ℕ) (nodes others rest : List Node) → d ≡ e → ch ≡ dh → nodes ≡ others → TreeAt g st (narrowed d p i) ch nodes rest → TreeAt g st (narrowed e p i) dh others rest
+tree_same g st d e ch dh p i nodes others rest de cd same t =
+    subst (λ f. TreeAt g st (narrowed f p i) dh others rest) de (subst (λ h. TreeAt g st (narrowed d p i) h others rest) cd (subst (λ ns. TreeAt g st (narrowed d p i) ch ns rest) same t))
 
-pub no_tree_same : (g : Graph) (d e : Family) (ch dh : ℕ → Bool) (p i : ℕ) (nodes others : List Node) → d ≡ e → ch ≡ dh → nodes ≡ others → NoTreeAt g (narrowed d p i) ch nodes → NoTreeAt g (narrowed e p i) dh others
-no_tree_same g d e ch dh p i nodes others de cd same n = record {
+pub no_tree_same : (g : Graph) (st : ℕ → ℕ → ℕ) (d e : Family) (ch dh : ℕ → Bool) (p i : ℕ) (nodes others : List Node) → d ≡ e → ch ≡ dh → nodes ≡ others → NoTreeAt g st (narrowed d p i) ch nodes → NoTreeAt g st (narrowed e p i) dh others
+no_tree_same g st d e ch dh p i nodes others de cd same n = record {
   none = λ rest t.
-      n.none rest (tree_same g e d dh ch p i others nodes rest (sym de) (sym cd) (sym same) t);
+      n.none rest (tree_same g st e d dh ch p i others nodes rest (sym de) (sym cd) (sym same) t);
 }
 
-pub tree_shorter : (g : Graph) (d : Family) (ch : ℕ → Bool) (nodes rest : List Node) → TreeAt g d ch nodes rest → length rest ≤ length nodes
-tree_shorter g d ch nodes rest t =
+pub tree_shorter : (g : Graph) (st : ℕ → ℕ → ℕ) (d : Family) (ch : ℕ → Bool) (nodes rest : List Node) → TreeAt g st d ch nodes rest → length rest ≤ length nodes
+tree_shorter g st d ch nodes rest t =
     let e : length nodes ≡ length (preorder t.state t.tree ++ rest) = ap length t.listed in
     omega (arith, e, length-append (preorder t.state t.tree) rest)
 
@@ -113,27 +113,27 @@ left_over true true e = e
 left_over true false e = refl
 left_over false b e = absurd (cc)
 
-module _ (g : Graph) (d : Family) (ch : ℕ → Bool) (p n : ℕ) (nodes : List Node) where
-  pub no_branch : NoChildrenAt g d (choose ch p) p n nodes → NoBranchAt g d ch p n nodes
+module _ (g : Graph) (st : ℕ → ℕ → ℕ) (d : Family) (ch : ℕ → Bool) (p n : ℕ) (nodes : List Node) where
+  pub no_branch : NoChildrenAt g st d (choose ch p) p n nodes → NoBranchAt g st d ch p n nodes
   no_branch none = record { none = λ rest b. none.none rest b.found }
 
-  pub whole_branch : (rest : List Node) (before after : ℕ → Bool) → p < packages g → ch p ≡ false → ((i : ℕ) → InClosure g d p i → before i ≡ true) → ((i : ℕ) → InClosure g d p i → after i ≡ false) → ChildrenTake g d (choose ch p) p n nodes rest before after → BranchAt g d ch p n nodes rest
+  pub whole_branch : (rest : List Node) (before after : ℕ → Bool) → p < packages g → ch p ≡ false → ((i : ℕ) → InClosure g d p i → before (st p i) ≡ true) → ((i : ℕ) → InClosure g d p i → after (st p i) ≡ false) → ChildrenTake g st d (choose ch p) p n nodes rest before after → BranchAt g st d ch p n nodes rest
   whole_branch rest before after known free full taken c = record {
     known = known;
     free = free;
     found = c.found;
-    covered = record { covers = λ i k. taken_last (before i) _ (full i k) (sym (taken i k) ∙ c.left_is i) };
+    covered = record { covers = λ i k. taken_last (before (st p i)) _ (full i k) (sym (taken i k) ∙ c.left_is (st p i)) };
   }
 
-  pub part_of_branch : (rest : List Node) (before after : ℕ → Bool) (i : ℕ) → InClosure g d p i → after i ≡ true → ChildrenTake g d (choose ch p) p n nodes rest before after → NoBranchAt g d ch p n nodes
+  pub part_of_branch : (rest : List Node) (before after : ℕ → Bool) (i : ℕ) → InClosure g d p i → after (st p i) ≡ true → ChildrenTake g st d (choose ch p) p n nodes rest before after → NoBranchAt g st d ch p n nodes
   part_of_branch rest before after i k missing c =
-      uncovered g d ch p n i nodes rest c.found k (left_over (before i) _ (sym missing ∙ c.left_is i))
+      uncovered g st d ch p n i nodes rest c.found k (left_over (before (st p i)) _ (sym missing ∙ c.left_is (st p i)))
 
   -- what the children found, where they cover the closed domain
-  pub branch_when_covered : {X : Type 0} (now : X → List Node) (before after : ℕ → Bool) (o : Option X) → p < packages g → ch p ≡ false → ((i : ℕ) → InClosure g d p i → before i ≡ true) → ((i : ℕ) → InClosure g d p i → after i ≡ false) → MatchOption o (NoChildrenAt g d (choose ch p) p n nodes) (λ x. ChildrenTake g d (choose ch p) p n nodes (now x) before after) → MatchOption o (NoBranchAt g d ch p n nodes) (λ x. BranchAt g d ch p n nodes (now x))
+  pub branch_when_covered : {X : Type 0} (now : X → List Node) (before after : ℕ → Bool) (o : Option X) → p < packages g → ch p ≡ false → ((i : ℕ) → InClosure g d p i → before (st p i) ≡ true) → ((i : ℕ) → InClosure g d p i → after (st p i) ≡ false) → MatchOption o (NoChildrenAt g st d (choose ch p) p n nodes) (λ x. ChildrenTake g st d (choose ch p) p n nodes (now x) before after) → MatchOption o (NoBranchAt g st d ch p n nodes) (λ x. BranchAt g st d ch p n nodes (now x))
   branch_when_covered now before after None known free full taken none = no_branch none
   branch_when_covered now before after (Some x) known free full taken c = whole_branch (now x) before after known free full taken c
 
-  pub branch_when_uncovered : {X : Type 0} (now : X → List Node) (before after : ℕ → Bool) (o : Option X) (i : ℕ) → InClosure g d p i → after i ≡ true → MatchOption o (NoChildrenAt g d (choose ch p) p n nodes) (λ x. ChildrenTake g d (choose ch p) p n nodes (now x) before after) → NoBranchAt g d ch p n nodes
+  pub branch_when_uncovered : {X : Type 0} (now : X → List Node) (before after : ℕ → Bool) (o : Option X) (i : ℕ) → InClosure g d p i → after (st p i) ≡ true → MatchOption o (NoChildrenAt g st d (choose ch p) p n nodes) (λ x. ChildrenTake g st d (choose ch p) p n nodes (now x) before after) → NoBranchAt g st d ch p n nodes
   branch_when_uncovered now before after None i k missing none = no_branch none
   branch_when_uncovered now before after (Some x) i k missing c = part_of_branch (now x) before after i k missing c

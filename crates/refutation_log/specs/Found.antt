@@ -1,47 +1,46 @@
 -- What is found at the front of a list of nodes.
-use Rattle.std.specs.Prelude.{◌≡◌, ℕ, ◌<◌, Bool, true, false, not, ◌&&◌, List, [], ◌∷◌, ◌++◌, Option}
+use Rattle.std.specs.Prelude.{◌≡◌, ℕ, ◌<◌, Bool, true, false, not, ◌&&◌, List, ◌++◌, Option}
 use Rattle.refutation_log.specs.declared.node.Node.{Node}
-use Rattle.refutation_log.specs.declared.node.NodeKind.TheVariants.{Leaf}
 use Rattle.version_graph.specs.Graph.{Graph, packages}
 use Rattle.version_graph.specs.Family.{Family, HasEmpty, InClosure}
-use Rattle.refutation_log.specs.Tree.{Tree, Children, count_of, has_child, preorder, preorders}
+use Rattle.refutation_log.specs.Tree.{Tree, Children, count_of, has_standing, preorder, preorders}
 use Rattle.refutation_log.specs.Within.{RefutesIn, EachRefutesIn, IsCoveredIn, choose}
 
 -- the nodes begin with a whole tree that refutes, and the rest follows
-pub record TreeAt (g : Graph) (domains : Family) (chosen : ℕ → Bool) (nodes rest : List Node) : Type 0 where
+pub record TreeAt (g : Graph) (st : ℕ → ℕ → ℕ) (domains : Family) (shut : ℕ → Bool) (nodes rest : List Node) : Type 0 where
   pub state : Option ℕ
   pub tree : Tree
   pub listed : nodes ≡ preorder state tree ++ rest
-  pub refutes : RefutesIn g domains chosen tree
+  pub refutes : RefutesIn g st domains shut tree
 
 -- the nodes begin with no such tree
-pub record NoTreeAt (g : Graph) (domains : Family) (chosen : ℕ → Bool) (nodes : List Node) : Type 0 where
-  pub none : (rest : List Node) → TreeAt g domains chosen nodes rest → ⊥
+pub record NoTreeAt (g : Graph) (st : ℕ → ℕ → ℕ) (domains : Family) (shut : ℕ → Bool) (nodes : List Node) : Type 0 where
+  pub none : (rest : List Node) → TreeAt g st domains shut nodes rest → ⊥
 
 -- the nodes begin with n children of a branch on p, each of which refutes, and the rest follows
-pub record ChildrenAt (g : Graph) (domains : Family) (chosen : ℕ → Bool) (p n : ℕ) (nodes rest : List Node) : Type 0 where
+pub record ChildrenAt (g : Graph) (st : ℕ → ℕ → ℕ) (domains : Family) (shut : ℕ → Bool) (p n : ℕ) (nodes rest : List Node) : Type 0 where
   pub children : Children
   pub count : count_of children ≡ n
   pub listed : nodes ≡ preorders children ++ rest
-  pub refute : EachRefutesIn g domains chosen p children
+  pub refute : EachRefutesIn g st domains shut p children
 
-pub record NoChildrenAt (g : Graph) (domains : Family) (chosen : ℕ → Bool) (p n : ℕ) (nodes : List Node) : Type 0 where
-  pub none : (rest : List Node) → ChildrenAt g domains chosen p n nodes rest → ⊥
+pub record NoChildrenAt (g : Graph) (st : ℕ → ℕ → ℕ) (domains : Family) (shut : ℕ → Bool) (p n : ℕ) (nodes : List Node) : Type 0 where
+  pub none : (rest : List Node) → ChildrenAt g st domains shut p n nodes rest → ⊥
 
--- such children, which take their states from those that were missing
-pub record ChildrenTake (g : Graph) (domains : Family) (chosen : ℕ → Bool) (p n : ℕ) (nodes rest : List Node) (missing left : ℕ → Bool) : Type 0 where
-  pub found : ChildrenAt g domains chosen p n nodes rest
-  pub left_is : (i : ℕ) → left i ≡ missing i && not (has_child found.children i)
+-- such children, which take what stands for their states from what was missing
+pub record ChildrenTake (g : Graph) (st : ℕ → ℕ → ℕ) (domains : Family) (shut : ℕ → Bool) (p n : ℕ) (nodes rest : List Node) (missing left : ℕ → Bool) : Type 0 where
+  pub found : ChildrenAt g st domains shut p n nodes rest
+  pub left_is : (i : ℕ) → left i ≡ missing i && not (has_standing found.children (st p) i)
 
 -- the nodes begin with the children of a branch on p that refutes, and the rest follows
-pub record BranchAt (g : Graph) (domains : Family) (chosen : ℕ → Bool) (p n : ℕ) (nodes rest : List Node) : Type 0 where
+pub record BranchAt (g : Graph) (st : ℕ → ℕ → ℕ) (domains : Family) (shut : ℕ → Bool) (p n : ℕ) (nodes rest : List Node) : Type 0 where
   pub known : p < packages g
-  pub free : chosen p ≡ false
-  pub found : ChildrenAt g domains (choose chosen p) p n nodes rest
-  pub covered : IsCoveredIn g domains p found.children
+  pub free : shut p ≡ false
+  pub found : ChildrenAt g st domains (choose shut p) p n nodes rest
+  pub covered : IsCoveredIn g st domains p found.children
 
-pub record NoBranchAt (g : Graph) (domains : Family) (chosen : ℕ → Bool) (p n : ℕ) (nodes : List Node) : Type 0 where
-  pub none : (rest : List Node) → BranchAt g domains chosen p n nodes rest → ⊥
+pub record NoBranchAt (g : Graph) (st : ℕ → ℕ → ℕ) (domains : Family) (shut : ℕ → Bool) (p n : ℕ) (nodes : List Node) : Type 0 where
+  pub none : (rest : List Node) → BranchAt g st domains shut p n nodes rest → ⊥
 
 -- the domains are closed, and none is empty
 pub record IsClosed (g : Graph) (domains : Family) : Type 0 where
@@ -52,14 +51,3 @@ pub record IsClosed (g : Graph) (domains : Family) : Type 0 where
 abbrev pub IsSettledAs : Graph → Family → Bool → Type 0
 IsSettledAs g domains true = IsClosed g domains
 IsSettledAs g domains false = HasEmpty g domains
-
--- the nodes are one leaf
-pub record IsLeaf (nodes : List Node) : Type 0 where
-  pub node : Node
-  pub lone : nodes ≡ node ∷ []
-  pub leaf : node.kind ≡ Leaf
-
--- the nodes are one whole tree that refutes; where the closure has an empty domain, one leaf
-abbrev pub IsWhole : Graph → Family → (ℕ → Bool) → List Node → Bool → Type 0
-IsWhole g domains chosen nodes true = TreeAt g domains chosen nodes []
-IsWhole g domains chosen nodes false = IsLeaf nodes

@@ -3,3 +3,4 @@ pub mod Refutes
 pub mod Within
 pub mod Found
 pub mod Scratch
+pub mod Renumbered

@@ -19,10 +19,10 @@ abbrev pub count_of : Children → ℕ
 count_of done = 0
 count_of (child i t cs) = count_of cs + 1
 
--- whether some child's state is i
-abbrev pub has_child : Children → ℕ → Bool
-has_child done i = false
-has_child (child j t cs) i = (j == i) || has_child cs i
+-- whether s stands for some child's state
+abbrev pub has_standing : Children → (ℕ → ℕ) → ℕ → Bool
+has_standing done standing s = false
+has_standing (child j t cs) standing s = (standing j == s) || has_standing cs standing s
 
 -- the nodes in pre-order: each node before its children, and these in order
 abbrev mutual

@@ -10,9 +10,12 @@ use crate::scratch::RefuteScratch;
 use version_graph::Instance;
 
 /// Whether the log refutes the instance: its nodes are the pre-order list of one whole tree of choices, whose
-/// first node has no state and every other one, each leaf of which is a dead end, and each branch of which
-/// leaves out no state of its package that is left. Any list of nodes may be handed in. Where the answer is
-/// true no solution exists, whoever made the log. It takes no memory, and the scratch values serve again.
+/// first node has no state and every other one, each leaf of which is a dead end, and each branch of which is on
+/// a kept package and leaves out no state of it that is left, but for states that are equal to a child's: of two
+/// that allow the same states of every other package, one is enough. Any list of nodes may be handed in. Where
+/// the answer is true no solution exists, whoever made the log. It takes no memory, and the scratch values serve
+/// again. It calls itself once for each branch on the way to a node, so at most as deep as there are packages,
+/// since no package is chosen twice.
 pub fn refutes(instance: &Instance, log: &Log, scratch: &mut RefuteScratch) -> bool
     requires plain { IsPlain instance.now }
     requires made { IsScratchFor instance.now scratch.old }
@@ -21,8 +24,7 @@ pub fn refutes(instance: &Instance, log: &Log, scratch: &mut RefuteScratch) -> b
     ensures made { IsScratchFor instance.now scratch.new }
 {
     refutation_is_sound();
+    // what is true of every instance
+    let _packages = instance.packages();
     scratch.accepts(instance, log.items())
 }
-
-#[cfg(test)]
-mod tests;

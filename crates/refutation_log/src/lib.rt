@@ -1,6 +1,7 @@
 //! A refutation log: a tree of choices, listed in pre-order, that shows that an instance has no solution.
 #![tactic(auto)]
 
+mod board;
 mod check;
 mod laws;
 mod moves;
@@ -8,6 +9,6 @@ mod node;
 mod scratch;
 
 pub use check::refutes;
-pub use laws::{more_choices_refute, refutation_is_sound};
+pub use laws::{refutation_is_sound, renumbered_refutes};
 pub use node::{Log, Node, NodeKind};
 pub use scratch::RefuteScratch;

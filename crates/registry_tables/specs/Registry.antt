@@ -5,7 +5,7 @@ use Rattle.std.specs.List.{list_any}
 use Rattle.std.specs.Str.{bytes_eq}
 use Rattle.toml.specs.Data.{Data, Members, no_members, member, as_table}
 use Rattle.uuid.specs.Text.{parsed}
-use Rattle.toml_view.specs.Reading.{text_of, uuid_of, or_shape, chained, mapped, at, opt, need, or_empty}
+use Rattle.toml_view.specs.Reading.{text_of, uuid_of, or_shape, chained, mapped, at, need}
 use Rattle.toml_view.specs.Causes.{caused}
 use Rattle.toml_view.specs.Answers.{Refuses as StopRefuses}
 use Rattle.toml_view.specs.declared.refusal.Refusal.{Refusal}
@@ -63,9 +63,9 @@ packages_of_members folder earlier (member key value more) =
 abbrev pub packages_of : Path → Data → Result (List Package) Refusal
 packages_of folder value = chained (packages_of_members folder []) (or_shape (as_table value))
 
--- the packages of a registry's table; an absent table has none
+-- the packages of a registry's table, which must be there
 abbrev pub packages_at : Path → Members → Result (List Package) Refusal
-packages_at folder members = mapped or_empty (opt (packages_of folder) (codes "packages") members)
+packages_at folder members = need (packages_of folder) (codes "packages") members
 
 -- the registry of a table, in the order of its keys
 abbrev pub registry_of : Path → Members → Result Registered Refusal

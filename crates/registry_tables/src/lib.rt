@@ -10,10 +10,6 @@ mod package_list;
 mod reading;
 mod registry;
 pub mod registry_laws;
-#[cfg(test)]
-mod registry_tests;
-#[cfg(test)]
-mod row_tests;
 mod section_files;
 mod seen;
 mod version_file;

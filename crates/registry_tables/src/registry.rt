@@ -17,18 +17,18 @@ use crate::seen::Seen;
 use pkg_world::{Duplicate, Listed, Name, NormPath, PathFault, Store, Values};
 use std::alloc::Global;
 use toml_view::{
-    NameReader, Reader, Stop, Table, UuidReader, Value, halted, identifier, need, opt, other_shape,
+    NameReader, Reader, Stop, Table, UuidReader, Value, halted, identifier, need, other_shape,
     stop_at,
 };
 use uuid::Uuid;
 
 impl Registry {
     /// The registry in that folder, from its file `Registry.toml`, which has `name`, `uuid`, and the table `packages` from
-    /// a package's identifier to its `name` and `path`; an absent table is empty, and other keys are ignored. (Pkg,
+    /// a package's identifier to its `name` and `path`. All three must be there, and other keys are ignored. (Pkg,
     /// Registries.)
     ///
     /// Errors: MissingFile, exactly where the folder has no such file; BadFile, exactly where its bytes are refused, with
-    /// the first cause in key order: no TOML text, nested too deep, or another shape, as for a key that is no identifier,
+    /// the first cause in key order: no TOML text, nested too deep, or another shape, as for an absent key, a key that is no identifier,
     /// for the second key of one identifier, and for a path that rises above the root; ReadFault, where the store can't
     /// read; want of memory.
     pub fn load<S: Store>(
@@ -89,11 +89,7 @@ fn packages_at(alloc: Global, folder: &NormPath, table: &Table) -> Result<Values
             folder: folder.copy(alloc)?,
         },
     };
-    match opt(alloc, &reader, table, "packages") {
-        Ok(Some(packages)) => Ok(packages),
-        Ok(None) => Ok(Values::make(alloc)),
-        Err(stop) => Err(stop),
-    }
+    need(alloc, &reader, table, "packages")
 }
 
 /// Reads the text of a path, which may not rise above the root from the folder.

@@ -9,8 +9,6 @@ mod print;
 mod reader;
 mod readers;
 mod refusal;
-#[cfg(test)]
-mod tests;
 mod values;
 mod versions;
 

@@ -2,8 +2,8 @@
 use Rattle.std.proofs.Common.{◌≡◌, ℕ, ◌<◌, true, false, ◌&&◌, List, get_or, refl, sym, subst, inl, inr, ltb, eqb}
 use Rattle.std.proofs.lemmas.Bool.Decides.{eqb_tells}
 use Rattle.std.proofs.lemmas.Bool.{eqb-true, eq-eqb, ltb-true, lt-ltb, and_parts, and_from}
-use Rattle.version_graph.specs.Graph.{Graph, packages, is_forbidden, IsSolution}
-use Rattle.version_graph.specs.Family.{Family, InClosure, HasEmpty, IsLargestStable, agrees, under}
+use Rattle.version_graph.specs.Graph.{Graph, packages, is_forbidden, is_offered, IsSolution}
+use Rattle.version_graph.specs.Family.{Family, InClosure, HasEmpty, IsLargestStable, IsStable, IsWithin, IsBelow, IsDecided, LiesBetween, agrees, under}
 
 pub closure-largest : (g : Graph) (f : Family) → IsLargestStable g f
 closure-largest g f = record {
@@ -52,4 +52,37 @@ chosen_closed g prefix chosen s fits p known = record {
         subst (λ x. under g prefix q x ≡ true) (sym k.1) (and_from _ _ (s.offered q k.0) (fits q k.0));
   };
   here = and_from _ _ (lt-ltb _ _ known) (eq-eqb _ _ refl);
+}
+
+pub below_within : (g : Graph) (inner outer : Family) → IsWithin inner outer → IsBelow g inner outer
+below_within g inner outer w = record {
+  below = λ p i k. record {
+    family = k.family;
+    stable = k.stable;
+    within = record { at = λ q j h. w.at q j (k.within.at q j h) };
+    here = k.here;
+  };
+}
+
+-- the closure within the old domains is the one within the new ones
+pub same_closure : (g : Graph) (old new : Family) → LiesBetween g old new → IsBelow g old new
+same_closure g old new b = record {
+  below = λ p i k. record {
+    family = k.family;
+    stable = k.stable;
+    here = k.here;
+    within = record { at = λ q j h. b.whole q j (record { family = k.family; stable = k.stable; within = k.within; here = h }) };
+  };
+}
+
+pub closes_alike : (g : Graph) (f s : Family) → LiesBetween g f s → IsBelow g f s × IsBelow g s f
+closes_alike g f s b = (same_closure g f s b, below_within g s f b.within)
+
+pub decided_solves : (g : Graph) (f : Family) (chosen : List ℕ) → IsStable g f → IsWithin f (is_offered g) → IsDecided g f chosen → IsSolution g chosen
+decided_solves g f chosen stable within decided = record {
+  each = decided.each;
+  offered = λ p known. within.at p (get_or chosen p 0) (decided.here p known);
+  allowed = λ p q first second apart.
+      let m = stable.meets p (get_or chosen p 0) q (decided.here p first) second (λ e. apart (sym e)) in
+      subst (λ x. is_forbidden g p (get_or chosen p 0) q x ≡ false) (decided.alone q m.partner second m.there) m.allowed;
 }

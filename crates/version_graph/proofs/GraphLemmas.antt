@@ -221,6 +221,11 @@ barred-read sizes barred pairs k p i known state v at b e =
     let wide : i < length v.items = omega (arith, k.wide p known, ap length row) in
     get_or_read v.items i b wide e false ∙ ap (λ r. get_or r i false) (sym row)
 
+-- a state that there is is offered where it isn't forbidden alone
+pub offered-from_barred : (g : Graph) (p i : ℕ) → p < packages g → i < states g p → is_offered g p i ≡ not (is_barred g p i)
+unfolding is_offered
+offered-from_barred g p i known state = rw (lt-ltb p (packages g) known, lt-ltb i (states g p) state) refl
+
 -- the opposite of the row of p is what it offers
 pub offered-row : {Z : Type 0} (sizes : List ℕ) (barred : List (Vec Bool Z)) (pairs : List Key) → IsKept (graph_of sizes barred pairs) barred →
     (p : ℕ) → p < length sizes → (v : Vec Bool Z) → v ≡ get_or barred p v →

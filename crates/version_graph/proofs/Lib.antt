@@ -4,3 +4,4 @@ pub mod GraphLemmas
 pub mod ListLemmas
 pub mod RowLemmas
 pub mod TrailLemmas
+pub mod PartLemmas

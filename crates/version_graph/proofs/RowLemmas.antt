@@ -7,7 +7,7 @@ use Rattle.std.proofs.lemmas.List.Sums.{sum_by-set, sum_by-cons, count_by-le-len
 use Rattle.version_graph.specs.Graph.{Graph, packages, states, is_barred, is_offered, is_state}
 use Rattle.version_graph.specs.Stored.{rows_of}
 use Rattle.std.specs.declared.vec.Vec.{Vec}
-use Rattle.version_graph.specs.Domain.{Rows, row, has, count_true, total, AreNarrow}
+use Rattle.version_graph.specs.Domain.{Rows, row, has, count_true, size_of, total, AreNarrow, IsOnly}
 
 state_known : (d : Rows) (p i : ℕ) → has d p i ≡ true → i < length (row d p)
 unfolding has
@@ -98,6 +98,25 @@ pub some_true : (xs : List Bool) → 0 < count_true xs → (i : ℕ) × (get_or 
 some_true [] h = absurd (omega (arith, h))
 some_true (true ∷ xs) h = (0, refl)
 some_true (false ∷ xs) h = let r = some_true xs (omega (arith, count-cons false xs, h)) in (suc r.0, r.1)
+
+-- a list with one true value has it in one place
+pub one_true : (xs : List Bool) → count_true xs ≡ 1 → (i : ℕ) × (get_or xs i false ≡ true) × ((j : ℕ) → get_or xs j false ≡ true → j ≡ i)
+one_true [] e = absurd (omega (arith, e))
+one_true (true ∷ xs) e = (0, refl, first_alone xs (omega (arith, count-cons true xs, e)))
+  where
+    first_alone : (ys : List Bool) → count_true ys ≡ 0 → (j : ℕ) → get_or (true ∷ ys) j false ≡ true → j ≡ 0
+    first_alone ys none zero there = refl
+    first_alone ys none (suc j) there = let away = none_true ys none j in absurd (cc)
+one_true (false ∷ xs) e =
+    let r = one_true xs (omega (arith, count-cons false xs, e)) in (suc r.0, r.1, later_alone xs r.0 r.2)
+  where
+    later_alone : (ys : List Bool) (i : ℕ) → ((j : ℕ) → get_or ys j false ≡ true → j ≡ i) → (j : ℕ) → get_or (false ∷ ys) j false ≡ true → j ≡ suc i
+    later_alone ys i alone zero there = absurd (cc)
+    later_alone ys i alone (suc j) there = ap suc (alone j there)
+
+pub only_one : (d : Rows) (p : ℕ) → size_of d p ≡ 1 → (i : ℕ) × IsOnly d p i
+unfolding has size_of
+only_one d p e = let r = one_true (row d p) e in (r.0, record { here = r.1; alone = r.2 })
 
 pub count-le : (xs : List Bool) → count_true xs ≤ length xs
 count-le xs = count_by-le-length (λ b. b) xs

@@ -4,7 +4,7 @@ use Rattle.std.proofs.lemmas.Bool.{cases_lt, eq-eqb, eqb-true, ltb-true, and_fro
 use Rattle.std.proofs.lemmas.List.{get_or-set_same, get_or-set_other, length-set, take-append-le, get_or_append_left}
 use Rattle.std.proofs.lemmas.List.Folds.{list_any-append}
 use Rattle.std.proofs.Math.Seq.{take-append_seam, get_or-append_seam, take-length}
-use Rattle.version_graph.specs.Graph.{Graph, packages, states, is_state, is_offered}
+use Rattle.version_graph.specs.Graph.{Graph, packages, states, is_state, is_offered, IsKnown}
 use Rattle.version_graph.specs.Domain.{Rows, row, has, total, IsFor}
 use Rattle.version_graph.specs.Noted.{History, Holds, is_noted, left_by, note_at, is_settled_at, IsSettled, IsFresh}
 use Rattle.version_graph.proofs.RowLemmas.{written, has_known, has-written, total-taken, total-given, length-written, row-written, total-le}
@@ -117,24 +117,28 @@ last-taken g d t front p i holds notes =
     away false b e = refl
 
 -- an offered state is in range
-pub offered_known : (g : Graph) (p i : ℕ) → is_offered g p i ≡ true → (p < packages g) × (i < states g p)
+pub offered_known : (g : Graph) (p i : ℕ) → is_offered g p i ≡ true → IsKnown g p i
 unfolding is_offered
 offered_known g p i e =
     let parts = and_parts (ltb p (packages g)) _ e in
     let more = and_parts (ltb i (states g p)) _ parts.1 in
-    (ltb-true _ _ parts.0, ltb-true _ _ more.0)
+    record { known = ltb-true _ _ parts.0; state = ltb-true _ _ more.0 }
 
 -- what is left is offered
 left_offered : (g : Graph) (notes : List (ℕ × ℕ)) (p i : ℕ) → left_by g notes p i ≡ true → is_offered g p i ≡ true
 unfolding left_by
 left_offered g notes p i e = (and_parts (is_offered g p i) _ e).0
 
+-- what is in the domains is offered
+pub held_offered : (g : Graph) (d : Rows) (t : History) → Holds g d t → (p i : ℕ) → has d p i ≡ true → is_offered g p i ≡ true
+held_offered g d t holds p i there = left_offered g t.notes p i (sym (holds.left p i) ∙ there)
+
 -- the noted state is in range
 pub last-known : (g : Graph) (d : Rows) (t : History) (front : List (ℕ × ℕ)) (p i : ℕ) → Holds g d t → t.notes ≡ front ++ (p, i) ∷ [] →
     (p < length d) × (i < length (row d p))
 last-known g d t front p i holds notes =
     let k = offered_known g p i (left_offered g front p i (last-taken g d t front p i holds notes).0) in
-    (omega (arith, k.0, holds.shape.each), omega (arith, k.1, holds.shape.wide p k.0))
+    (omega (arith, k.known, holds.shape.each), omega (arith, k.state, holds.shape.wide p k.known))
 
 -- a state that is put back, and its note taken away
 pub gives : (g : Graph) (d : Rows) (t u : History) (p i : ℕ) → Holds g d t →

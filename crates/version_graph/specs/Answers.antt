@@ -1,8 +1,8 @@
 -- When making an instance is refused, and which count the refusal carries. (own rule)
 use Rattle.std.specs.Prelude.{◌≡◌, ℕ, ◌<◌, ◌≤◌, ◌^◌, List, length, sum}
 use Rattle.version_graph.specs.Graph.{Graph, bits, cells}
-use Rattle.version_graph.specs.declared.limits.GraphFault.{GraphFault}
-use Rattle.version_graph.specs.declared.limits.GraphFault.TheVariants.{Limit, Memory}
+use Rattle.version_graph.specs.declared.fault.GraphFault.{GraphFault}
+use Rattle.version_graph.specs.declared.fault.GraphFault.TheVariants.{Limit, Memory}
 use Rattle.pkg_world.specs.declared.cause.LimitKind.TheVariants.{Packages, States, Bits, Cells, TreeDepth, TreeFiles}
 
 -- the limits on packages and states: more than 4,096 packages carry 4,097, else the whole count of states

@@ -1,5 +1,5 @@
 -- Domains: for each package, which of its states are left. A domain is seen as its truth values, state by state.
-use Rattle.std.specs.Prelude.{◌≡◌, ℕ, ◌<◌, ◌^◌, Bool, false, List, [], length, slice_index_or, count_by, sum_by}
+use Rattle.std.specs.Prelude.{◌≡◌, ℕ, ◌<◌, ◌^◌, Bool, true, false, List, [], length, slice_index_or, count_by, sum_by}
 use Rattle.version_graph.specs.Graph.{Graph, packages, states}
 
 abbrev pub Rows : Type 0
@@ -33,3 +33,14 @@ pub record IsFor (g : Graph) (d : Rows) : Type 0 where
 -- each domain has fewer places than a 32-bit number can count
 pub record AreNarrow (d : Rows) : Type 0 where
   pub narrow : (p : ℕ) → length (row d p) < 2 ^ 32
+
+-- the domain of p is its state i alone
+pub record IsOnly (d : Rows) (p i : ℕ) : Type 0 where
+  pub here : has d p i ≡ true
+  pub alone : (j : ℕ) → has d p j ≡ true → j ≡ i
+
+-- ---- laws
+
+-- a domain of one state is that state alone
+abbrev pub OneStateIsLeft : Type 0
+OneStateIsLeft = (d : Rows) (p : ℕ) → size_of d p ≡ 1 → (i : ℕ) × IsOnly d p i

@@ -1,7 +1,7 @@
 -- Families of domains, and the closure: the largest family within given domains in which each state has an
 -- allowed partner in every other package's domain. It is a condition, without a queue or an order of work.
 -- (own rule)
-use Rattle.std.specs.Prelude.{◌≡◌, ◌≢◌, ℕ, ◌<◌, Bool, true, false, not, ◌&&◌, ◌||◌, ◌==◌, List, ◌∷◌, [], ◌++◌, ◌↔◌, slice_index}
+use Rattle.std.specs.Prelude.{◌≡◌, ◌≢◌, ℕ, ◌<◌, Bool, true, false, not, ◌&&◌, ◌||◌, ◌==◌, List, ◌∷◌, [], ◌++◌, ◌↔◌, length, slice_index}
 use Rattle.std.specs.List.{list_all}
 use Rattle.version_graph.specs.Graph.{Graph, packages, is_forbidden, is_offered, IsSolution}
 
@@ -18,6 +18,10 @@ pub record Meets (g : Graph) (f : Family) (p i q : ℕ) : Type 0 where
   pub partner : ℕ
   pub there : f q partner ≡ true
   pub allowed : is_forbidden g p i q partner ≡ false
+
+-- the states i and j of p are allowed with the same states of q's domain
+pub record AreAlike (g : Graph) (f : Family) (p i j q : ℕ) : Type 0 where
+  pub alike : (k : ℕ) → f q k ≡ true → is_forbidden g p i q k ≡ is_forbidden g p j q k
 
 -- each state has an allowed partner in every other package's domain
 pub record IsStable (g : Graph) (f : Family) : Type 0 where
@@ -50,6 +54,16 @@ pub record HasEmpty (g : Graph) (f : Family) : Type 0 where
   pub known : place < packages g
   pub none : (i : ℕ) → InClosure g f place i → ⊥
 
+-- what is closed within the inner family is closed within the outer one
+pub record IsBelow (g : Graph) (inner outer : Family) : Type 0 where
+  pub below : (p i : ℕ) → InClosure g inner p i → InClosure g outer p i
+
+-- the domain of each package is the one state that the list has for it
+pub record IsDecided (g : Graph) (f : Family) (chosen : List ℕ) : Type 0 where
+  pub each : length chosen ≡ packages g
+  pub here : (p : ℕ) → p < packages g → f p (slice_index chosen p) ≡ true
+  pub alone : (p i : ℕ) → p < packages g → f p i ≡ true → i ≡ slice_index chosen p
+
 -- the domain of p cut to its state i, and every other domain left
 abbrev pub narrowed : Family → ℕ → ℕ → Family
 narrowed f p i q j = f q j && (not (q == p) || (j == i))
@@ -73,6 +87,14 @@ pub record IsLargestStable (g : Graph) (f : Family) : Type 0 where
 abbrev pub ClosureIsLargest : Type 0
 ClosureIsLargest = (g : Graph) (f : Family) → IsLargestStable g f
 
+-- the smaller family has the smaller closure
+abbrev pub ClosureIsMonotone : Type 0
+ClosureIsMonotone = (g : Graph) (inner outer : Family) → IsWithin inner outer → IsBelow g inner outer
+
+-- a family and what lies between it and its closure have the same closure
+abbrev pub BetweenClosesAlike : Type 0
+BetweenClosesAlike = (g : Graph) (f s : Family) → LiesBetween g f s → IsBelow g f s × IsBelow g s f
+
 -- where one domain of the closure is empty, all are; so the least such package is 0
 abbrev pub EmptyIsEverywhere : Type 0
 EmptyIsEverywhere = (g : Graph) (f : Family) → HasEmpty g f → (p i : ℕ) → InClosure g f p i → ⊥
@@ -87,3 +109,8 @@ abbrev pub SolutionIsClosed : Type 0
 SolutionIsClosed = (g : Graph) (prefix : List (ℕ × ℕ)) (chosen : List ℕ) → IsSolution g chosen →
     ((p : ℕ) → p < packages g → agrees prefix p (slice_index chosen p) ≡ true) →
     (p : ℕ) → p < packages g → InClosure g (under g prefix) p (slice_index chosen p)
+
+-- a stable family of offered states with one state for each package is a solution
+abbrev pub DecidedIsSolution : Type 0
+DecidedIsSolution = (g : Graph) (f : Family) (chosen : List ℕ) → IsStable g f → IsWithin f (is_offered g) → IsDecided g f chosen →
+    IsSolution g chosen

@@ -53,6 +53,11 @@ is_state q j p i = q == p && j == i
 unfoldable pub is_offered : Graph → ℕ → ℕ → Bool
 is_offered g p i = nat_lt p (packages g) && (nat_lt i (states g p) && not (is_barred g p i))
 
+-- a state that there is
+pub record IsKnown (g : Graph) (p i : ℕ) : Type 0 where
+  pub known : p < packages g
+  pub state : i < states g p
+
 -- the numbers that pass the test, rising
 pub record IsListOf (test : ℕ → Bool) (xs : List ℕ) : Type 0 where
   pub rising : IsStrictlyIncreasing xs
@@ -128,3 +133,9 @@ pub record IsSolution (g : Graph) (chosen : List ℕ) : Type 0 where
   pub each : length chosen ≡ packages g
   pub offered : (p : ℕ) → p < packages g → is_offered g p (slice_index chosen p) ≡ true
   pub allowed : (p q : ℕ) → p < packages g → q < packages g → p ≢ q → is_forbidden g p (slice_index chosen p) q (slice_index chosen q) ≡ false
+
+-- ---- laws
+
+-- a state that isn't forbidden alone is one that there is
+abbrev pub OfferedIsKnown : Type 0
+OfferedIsKnown = (g : Graph) (p i : ℕ) → is_offered g p i ≡ true → IsKnown g p i

@@ -4,4 +4,6 @@ pub mod Domain
 pub mod Noted
 pub mod Answers
 pub mod Needed
+pub mod Part
+pub mod Copied
 pub mod Stored

@@ -59,3 +59,7 @@ pub record IsFresh (g : Graph) (t : History) : Type 0 where
 abbrev pub NotesTellDomains : Type 0
 NotesTellDomains = (g : Graph) (d e : Rows) (s t : History) → Holds g d s → Holds g e t → s.notes ≡ t.notes →
     (p i : ℕ) → has d p i ≡ has e p i
+
+-- a state that is left in such domains isn't forbidden alone
+abbrev pub HeldIsOffered : Type 0
+HeldIsOffered = (g : Graph) (d : Rows) (t : History) → Holds g d t → (p i : ℕ) → has d p i ≡ true → is_offered g p i ≡ true

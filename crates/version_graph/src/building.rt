@@ -4,8 +4,8 @@ ghost use Rattle.version_graph.specs.Graph.{packages, states, is_barred, is_forb
 ghost use Rattle.version_graph.specs.Answers.{CountsPass, SumsPass, IsMemory};
 
 use crate::counting::{listed_pairs, neighbour_rows, open_rows, state_sum};
+use crate::fault::GraphFault;
 use crate::graph::Instance;
-use crate::limits::GraphFault;
 use pkg_world::LimitKind;
 use std::alloc::{AllocError, Global};
 use std::collections::BTreeSet;
@@ -58,14 +58,40 @@ impl InstanceBuilder {
         if total > MOST_STATES {
             return Err(GraphFault::Limit(LimitKind::States, total));
         }
+        Ok(Self::blank(alloc, states)?)
+    }
+
+    /// An instance in which nothing is forbidden, of numbers that pass no limit.
+    pub(crate) fn blank(alloc: Global, states: &[u32]) -> Result<Self, AllocError>
+        requires few { length states.now ≤ 4096 }
+        requires small { sum states.now ≤ 65536 }
+        requires filled { (p : ℕ) → p < length states.now → 0 < slice_index states.now p }
+        ensures sizes { IfOk result (λ builder. builder.sizes ≡ states.now) }
+        ensures bare { IfOk result (λ builder. IsOpen builder) }
+    {
         let sizes = Vec::from_slice(alloc, states)?;
         let barred = open_rows(alloc, states)?;
         Ok(Self {
             sizes,
-            total: total as u32,
+            total: state_sum(states) as u32,
             barred,
             pairs: BTreeSet::new(alloc),
         })
+    }
+
+    /// How many packages there are.
+    pub(crate) fn packages(&self) -> u32
+        ensures { result ≡ packages self.now }
+    {
+        self.sizes.len() as u32
+    }
+
+    /// How many states the package p has.
+    pub(crate) fn states(&self, p: u32) -> u32
+        requires { p < packages self.now }
+        ensures { result ≡ states self.now p }
+    {
+        self.sizes[p as usize]
     }
 
     /// Forbids the state i of p alone. It takes no memory.
@@ -94,6 +120,22 @@ impl InstanceBuilder {
         ensures err { OnErr result (self.new ≡ self.old) }
         ensures memory { IfErr result IsMemory }
     {
+        self.add_pair(p, i, q, j)?;
+        Ok(())
+    }
+
+    /// Forbids the state i of p and the state j of q together.
+    pub(crate) fn add_pair(&mut self, p: u32, i: u32, q: u32, j: u32) -> Result<(), AllocError>
+        requires first { p < packages self.old }
+        requires first_state { i < states self.old p }
+        requires second { q < packages self.old }
+        requires second_state { j < states self.old q }
+        requires apart { p ≢ q }
+        ensures sizes { self.new.sizes ≡ self.old.sizes }
+        ensures barred { (a b : ℕ) → is_barred self.new a b ≡ is_barred self.old a b }
+        ensures ok { OnOk result ((a b c d : ℕ) → is_forbidden self.new a b c d ≡ (is_forbidden self.old a b c d || is_pair a b c d p i q j)) }
+        ensures err { OnErr result (self.new ≡ self.old) }
+    {
         if p < q {
             self.list_pair(p, i, q, j)
         } else {
@@ -102,7 +144,7 @@ impl InstanceBuilder {
     }
 
     /// Lists the pair, the lower package first.
-    fn list_pair(&mut self, p: u32, i: u32, q: u32, j: u32) -> Result<(), GraphFault>
+    fn list_pair(&mut self, p: u32, i: u32, q: u32, j: u32) -> Result<(), AllocError>
         requires below { p < q }
         requires known { q < packages self.old }
         requires first_state { i < states self.old p }
@@ -111,7 +153,6 @@ impl InstanceBuilder {
         ensures barred { (a b : ℕ) → is_barred self.new a b ≡ is_barred self.old a b }
         ensures ok { OnOk result ((a b c d : ℕ) → has_pair self.new a b c d ≡ (has_pair self.old a b c d || is_key a b c d p i q j)) }
         ensures err { OnErr result (self.new ≡ self.old) }
-        ensures memory { IfErr result IsMemory }
     {
         self.pairs.insert((p, i, q, j)).map_err(AllocError::from)?;
         Ok(())
@@ -137,9 +178,8 @@ impl InstanceBuilder {
     }
 
     /// The instance with its neighbours, before its sums are looked at.
-    fn linked(self, alloc: Global) -> Result<Instance, GraphFault>
-        ensures ok { IfOk result (λ instance. instance ≡ self) }
-        ensures memory { IfErr result IsMemory }
+    pub(crate) fn linked(self, alloc: Global) -> Result<Instance, AllocError>
+        ensures { IfOk result (λ instance. instance ≡ self) }
     {
         let listed = listed_pairs(alloc, &self.pairs)?;
         let neighbours = neighbour_rows(alloc, self.sizes.len(), listed.as_slice())?;

@@ -126,7 +126,7 @@ pub(crate) struct Sums {
 
 impl Instance {
     /// Whether the two packages are neighbours.
-    fn are_neighbours(&self, p: u32, q: u32) -> bool
+    pub(crate) fn are_neighbours(&self, p: u32, q: u32) -> bool
         requires { p < packages self.now }
         ensures { result ≡ are_neighbours self.now p q }
     {

@@ -6,7 +6,7 @@ ghost use Rattle.version_graph.specs.Domain.{Rows, has, row, size_of, IsFor, cou
 ghost use Rattle.version_graph.specs.Noted.{History, Holds, IsFresh, note_at};
 
 use crate::graph::Instance;
-use crate::notes::Trail;
+use crate::trail::Trail;
 use std::alloc::{AllocError, Global};
 use std::marker::Model;
 

@@ -2,11 +2,11 @@
 ghost use Rattle.std.specs.Prelude.{◌≡◌, ◌≢◌, ◌<◌, ◌≤◌, ◌&&◌, ℕ, true, false, not, length, IfOk, MatchBool, Contains, slice_index, slice_index_or, map, sum, OnOk, ◌∷◌, ◌++◌, [], if◌then◌else◌};
 ghost use Rattle.version_graph.specs.Graph.{packages, states, is_offered, is_forbidden, is_root, are_neighbours, IsGraph, IsListOf};
 ghost use Rattle.version_graph.specs.Needed.{AreNeeds};
-ghost use Rattle.version_graph.specs.Family.{Meets};
+ghost use Rattle.version_graph.specs.Family.{Meets, AreAlike};
 ghost use Rattle.version_graph.specs.Domain.{has, IsFor};
 
 use crate::domain::Domains;
-use crate::needing::Needs;
+use crate::needs::Needs;
 use pkg_world::States;
 use std::alloc::{AllocError, Global};
 use std::collections::BTreeSet;
@@ -59,6 +59,15 @@ impl Instance {
         ensures small { result ≤ 65536 }
     {
         self.total
+    }
+
+    /// Whether the state i of p isn't forbidden alone. It takes no memory.
+    pub fn is_offered(&self, p: u32, i: u32) -> bool
+        requires known { p < packages self.now }
+        requires state { i < states self.now p }
+        ensures { result ≡ is_offered self.now p i }
+    {
+        !self.barred[p as usize][i as usize]
     }
 
     /// Whether the state i of p and the state j of q aren't forbidden together. It takes no memory.
@@ -143,6 +152,27 @@ impl Instance {
         ensures { result ≡ (has domains.now q j && not (is_forbidden self.now p i q j)) }
     {
         domains.has(q, j) && self.allowed(p, i, q, j)
+    }
+
+    /// Whether the states i and j of p are allowed with the same states of q's domain. It takes no memory.
+    pub fn are_alike(&self, p: u32, i: u32, j: u32, q: u32, domains: &Domains) -> bool
+        requires first { p < packages self.now }
+        requires first_state { i < states self.now p }
+        requires second_state { j < states self.now p }
+        requires other { q < packages self.now }
+        requires apart { p ≢ q }
+        requires made { IsFor self.now domains.now }
+        ensures { MatchBool result (AreAlike self.now (has domains.now) p i j q) (AreAlike self.now (has domains.now) p i j q → ⊥) }
+    {
+        for k in 0..self.states(q) {
+            let is_there = domains.has(q, k);
+            let is_first = self.allowed(p, i, q, k);
+            let is_second = self.allowed(p, j, q, k);
+            if is_there && is_first != is_second {
+                return false;
+            }
+        }
+        true
     }
 
     /// The states of p that aren't forbidden alone.

@@ -5,21 +5,23 @@
 mod building;
 mod counting;
 mod domain;
+mod fault;
 mod graph;
 mod laws;
-mod limits;
-mod needing;
-mod notes;
-#[cfg(test)]
-mod tests;
+mod needs;
+mod restricting;
+mod state_map;
+mod trail;
 
 pub use building::InstanceBuilder;
 pub use domain::Domains;
+pub use fault::GraphFault;
 pub use graph::Instance;
 pub use laws::{
-    closing_goes_on, closure_is_largest, empty_is_everywhere, notes_tell_domains,
-    solution_is_closed,
+    between_closes_alike, closing_goes_on, closure_is_largest, closure_is_monotone,
+    decided_is_solution, empty_is_everywhere, held_is_offered, notes_tell_domains,
+    offered_is_known, one_state_is_left, solution_is_closed,
 };
-pub use limits::GraphFault;
-pub use needing::Needs;
-pub use notes::Trail;
+pub use needs::Needs;
+pub use state_map::StateMap;
+pub use trail::Trail;

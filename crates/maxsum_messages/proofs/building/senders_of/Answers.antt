@@ -2,7 +2,7 @@ use Rattle.std.proofs.Common.{◌≡◌, ◌∙◌, ◌<◌, ◌+◌, ◌++◌, 
 use Rattle.std.proofs.lemmas.List.{length-append, length-map}
 use Rattle.std.specs.declared.vec.Vec.{Vec}
 use Rattle.version_graph.specs.Graph.{packages, are_neighbours, IsListOf}
-use Rattle.version_graph.specs.Stored.{rows_of}
+use Rattle.maxsum_messages.specs.Rows.{rows_of}
 use Rattle.maxsum_messages.specs.Kept.{AreSenders}
 use Rattle.maxsum_messages.proofs.Rows.{pushed-all, rows-pushed}
 use Rattle.maxsum_messages.proofs.building.senders_of.Goals as goal

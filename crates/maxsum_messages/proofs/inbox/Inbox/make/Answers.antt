@@ -2,7 +2,7 @@ use Rattle.std.proofs.Common.{◌≡◌, ◌∙◌, ◌^◌, ◌<◌, ◌≤◌,
 use Rattle.std.proofs.lemmas.List.{length-map}
 use Rattle.std.specs.declared.vec.Vec.{Vec}
 use Rattle.version_graph.specs.Graph.{packages}
-use Rattle.version_graph.specs.Stored.{rows_of}
+use Rattle.maxsum_messages.specs.Rows.{rows_of}
 use Rattle.maxsum_messages.specs.Kept.{IsKept, AreShaped, AreSenders}
 use Rattle.maxsum_messages.proofs.Rows.{cell}
 use Rattle.maxsum_messages.proofs.Sums.{heard-silent}

@@ -1,10 +1,9 @@
-use Rattle.std.proofs.Common.{◌≡◌, [], sym}
-use Rattle.version_graph.specs.Family.{under}
+use Rattle.std.proofs.Common.{◌≡◌, ◌∙◌, [], ap, subst, sym, slice_index_or, false}
+use Rattle.version_graph.specs.Family.{IsBelow, under}
 use Rattle.version_graph.specs.Domain.{has}
-use Rattle.refutation_log.specs.Refutes.{is_chosen}
+use Rattle.graph_pruning.specs.Marked.{standing_in}
 use Rattle.refutation_log.specs.Scratch.{marks}
-use Rattle.refutation_log.proofs.Below.{below_within}
-use Rattle.refutation_log.proofs.Holding.{same_closure, full_domains}
+use Rattle.refutation_log.proofs.Holding.{full_domains}
 use Rattle.refutation_log.proofs.Whole.{no_refutation_of_nothing, no_refutation_with_state, whole_is_refutation}
 use Rattle.refutation_log.proofs.scratch.RefuteScratch.accepts.Goals as goal
 
@@ -19,10 +18,25 @@ returns-then-is_some-clause-exact c =
 pub returns-clause-exact : goal.returns-clause-exact
 returns-clause-exact c =
     let g = c.args.instance.now in
-    let full : has c.args.self.now.domains ≡ under g [] = full_domains _ _ _ c.requires.fits.domains c.requires.full in
-    let between = rw full at c.settle-is_open.ensures.between in
-    let free : marks c.args.self.now ≡ is_chosen [] = λ x p. c.requires.free p x in
-    let d = has c.settle-is_open.new.domains in
-    let same = whole_is_refutation g d (marks c.args.self.now) c.in-Some.first.now c.args.nodes.now _ c.settle-is_open.result c.in-Some.ensures.cases.0 (sym c.if-is_some.ensures) free (below_within g _ _ between.within) (same_closure g _ _ between) c.settle-is_open.ensures.settled in
-    let whole = c.is_whole-accepted.ensures.whole in
-    (λ yes. same.0 (whole.0 yes), λ r. whole.1 (same.1 r))
+    let s = c.args.self.now in
+    let r = c.requires in
+    let d = has s.board.domains in
+    let full : d ≡ under g [] = full_domains _ _ _ r.fits.domains r.full in
+    let same : IsBelow g d d = record { below = λ p i k. k } in
+    let one = whole_is_refutation c.one_pruning.ensures g r.pruning (standing_in s.classes) d (marks s.board) c.in-Some.first.now c.args.nodes.now _
+    r.prunes r.stands r.free c.in-Some.ensures.cases.0 (sym c.if-is_some.ensures) (subst (IsBelow g d) full same) (subst (λ f. IsBelow g f d) full same) in
+    let whole = c.accepts.ensures.whole in
+    (λ e. one.0 (whole.0 e), λ t. whole.1 (one.1 t))
+
+pub returns-clause-made : goal.returns-clause-made
+returns-clause-made c =
+    let r = c.requires in
+    let back = c.accepts.ensures.restored in
+    record {
+      fits = c.accepts.ensures.fits;
+      full = back.trail ∙ r.full;
+      pruning = r.pruning;
+      prunes = r.prunes;
+      stands = r.stands;
+      free = λ p known. ap (λ xs. slice_index_or xs p false) back.shut ∙ r.free p known;
+    }

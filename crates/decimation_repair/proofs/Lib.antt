@@ -1,0 +1,5 @@
+pub mod WalkLemmas
+pub mod ChoiceLemmas
+pub mod EndLemmas
+pub mod StandLemmas
+pub mod MoveLemmas

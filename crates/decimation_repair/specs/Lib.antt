@@ -1,0 +1,5 @@
+pub mod Walk
+pub mod Choice
+pub mod Laws
+pub mod Path
+pub mod Standing

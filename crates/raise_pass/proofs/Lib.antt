@@ -1,0 +1,5 @@
+pub mod MarkLemmas
+pub mod ReachLemmas
+pub mod StuckLemmas
+pub mod TrimLemmas
+pub mod FinishLemmas

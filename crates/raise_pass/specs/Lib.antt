@@ -1,0 +1,5 @@
+pub mod Finishing
+pub mod Laws
+pub mod Reached
+pub mod Scratch
+pub mod Changed

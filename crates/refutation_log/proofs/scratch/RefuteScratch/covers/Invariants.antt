@@ -1,6 +1,0 @@
-use Rattle.std.proofs.Common.{◌≡◌, ℕ, ◌<◌, true, false}
-use Rattle.version_graph.specs.Domain.{has}
-use Rattle.refutation_log.proofs.scratch.RefuteScratch.covers.Given as goal
-
-abbrev pub invariant-loop-i : goal.invariant-loop-i
-invariant-loop-i l = (k : ℕ) → k < l.i → has l.self.domains l.p k ≡ true → has l.self.missing l.p k ≡ false

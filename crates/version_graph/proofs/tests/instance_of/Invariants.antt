@@ -1,8 +1,0 @@
-use Rattle.std.proofs.Common.{◌≡◌}
-use Rattle.version_graph.proofs.tests.instance_of.Given as goal
-
-abbrev pub invariant-loop-p : goal.invariant-loop-p
-invariant-loop-p l = l.builder.sizes ≡ l.sizes
-
-abbrev pub invariant-loop-p-2 : goal.invariant-loop-p-2
-invariant-loop-p-2 l = l.builder.sizes ≡ l.sizes

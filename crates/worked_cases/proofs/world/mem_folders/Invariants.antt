@@ -1,0 +1,7 @@
+-- The store holds folders alone.
+use Rattle.pkg_world.specs.Held.{mem_files}
+use Rattle.worked_cases.specs.Folders.{HasNoFile}
+use Rattle.worked_cases.proofs.world.mem_folders.Given as goal
+
+abbrev pub invariant-folders : goal.invariant-folders
+invariant-folders l = HasNoFile (mem_files l.store)
