@@ -11,6 +11,20 @@ use Rattle.std.specs.declared.cmp.Ordering.TheVariants.{Less, Equal, Greater}
 use Rattle.std.specs.Cmp.{IsTotalOrder, upto, tied_itself}
 use Rattle.maxsum_messages.specs.Greatest.{IsGreatest, raised}
 
+pub not_above : {W : Type 0} (cmp : W → W → Ordering) → IsTotalOrder cmp → (a b : W) → is_gt (cmp a b) ≡ true → is_gt (cmp b a) ≡ false
+not_above cmp total a b h = by_answer (cmp a b) h (total.antisymm b a)
+  where
+    by_answer : (r : Ordering) → is_gt r ≡ true → cmp b a ≡ ordering_reverse r → is_gt (cmp b a) ≡ false
+    by_answer Less h e = cc
+    by_answer Equal h e = cc
+    by_answer Greater h e = ap is_gt e
+
+pub passed : (n i : ℕ) → i < n + 1 → (i < n) ⊎ (i ≡ n)
+passed n i h = elim (cases_lt i n) [
+    | inl l ↦ inl l
+    | inr l ↦ inr (omega (arith, h, l))
+  ]
+
 module _ {W : Type 0} (cmp : W → W → Ordering) (test : ℕ → Bool) (value : ℕ → W) where
   -- the greatest value at a number below n that passes
   pub record IsGreatestBelow (n : ℕ) (best : W) : Type 0 where
@@ -25,20 +39,6 @@ module _ {W : Type 0} (cmp : W → W → Ordering) (test : ℕ → Bool) (value 
   IsBestBelow n (Some best) = IsGreatestBelow n best
 
   module _ (total : IsTotalOrder cmp) where
-    pub not_above : (a b : W) → is_gt (cmp a b) ≡ true → is_gt (cmp b a) ≡ false
-    not_above a b h = by_answer (cmp a b) h (total.antisymm b a)
-      where
-        by_answer : (r : Ordering) → is_gt r ≡ true → cmp b a ≡ ordering_reverse r → is_gt (cmp b a) ≡ false
-        by_answer Less h e = cc
-        by_answer Equal h e = cc
-        by_answer Greater h e = ap is_gt e
-
-    pub passed : (n i : ℕ) → i < n + 1 → (i < n) ⊎ (i ≡ n)
-    passed n i h = elim (cases_lt i n) [
-        | inl l ↦ inl l
-        | inr l ↦ inr (omega (arith, h, l))
-      ]
-
     first : (n : ℕ) → ((i : ℕ) → i < n → test i ≡ true → ⊥) → test n ≡ true → IsGreatestBelow (n + 1) (value n)
     first n none t = record {
         place = n;
@@ -70,7 +70,7 @@ module _ {W : Type 0} (cmp : W → W → Ordering) (test : ℕ → Bool) (value 
         passes = t;
         here = refl;
         most = λ i l u. elim (passed n i l) [
-          | inl below ↦ upto total (value i) best (value n) (b.most i below u) (not_above (value n) best above)
+          | inl below ↦ upto total (value i) best (value n) (b.most i below u) (not_above cmp total (value n) best above)
           | inr e ↦ subst (λ k. is_gt (cmp (value k) (value n)) ≡ false) (sym e) (ap is_gt (tied_itself total (value n)))
         ];
       }

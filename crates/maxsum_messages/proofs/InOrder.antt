@@ -56,52 +56,52 @@ module _ {W : Type 0} (cmp : W → W → Ordering) (total : IsTotalOrder cmp) (v
 
   module _ (xs : List ℕ) (place i : ℕ) (bound : place ≤ length xs) where
 
-    -- where an element of the longer list comes from
-    data Source (k : ℕ) : Type 0 where
-      left_of : k < place → get_or (insert xs place i) k 0 ≡ get_or xs k 0 → Source k
-      itself : k ≡ place → get_or (insert xs place i) k 0 ≡ i → Source k
-      right_of : (l : ℕ) → k ≡ l + 1 → place ≤ l → l < length xs → get_or (insert xs place i) k 0 ≡ get_or xs l 0 → Source k
+    -- an element of the longer list stood before the place, is the new one, or stood from the place on
+    abbrev Source : ℕ → Type 0
+    Source k = ((k < place) × (get_or (insert xs place i) k 0 ≡ get_or xs k 0))
+        ⊎ (((k ≡ place) × (get_or (insert xs place i) k 0 ≡ i))
+        ⊎ ((l : ℕ) × (k ≡ l + 1) × (place ≤ l) × (l < length xs) × (get_or (insert xs place i) k 0 ≡ get_or xs l 0)))
 
     source : (k : ℕ) → k < length xs + 1 → Source k
     source k h =
         elim (cases_order k place) [
-          | inl e ↦ itself e (ap (λ n. get_or (insert xs place i) n 0) e ∙ get_or-insert_at xs place i 0 bound)
+          | inl e ↦ inr (inl (e, ap (λ n. get_or (insert xs place i) n 0) e ∙ get_or-insert_at xs place i 0 bound))
           | inr o ↦ elim o [
-            | inl l ↦ left_of l (get_or-insert_below xs place i 0 k l bound)
+            | inl l ↦ inl (l, get_or-insert_below xs place i 0 k l bound)
             | inr l ↦
                 let back : k ≡ (k - 1) + 1 = omega (arith, l) in
-                right_of (k - 1) back (omega (arith, l)) (omega (arith, h, l)) (ap (λ n. get_or (insert xs place i) n 0) back ∙ get_or-insert_above xs place i 0 (k - 1) (omega (arith, l)) bound)
+                inr (inr (k - 1, back, omega (arith, l), omega (arith, h, l), ap (λ n. get_or (insert xs place i) n 0) back ∙ get_or-insert_above xs place i 0 (k - 1) (omega (arith, l)) bound))
           ]
         ]
 
     pub falling-insert : IsFalling cmp value xs → ((k : ℕ) → k < place → IsBefore cmp value (get_or xs k 0) i) → ((k : ℕ) → place ≤ k → k < length xs → IsBefore cmp value i (get_or xs k 0)) →
         IsFalling cmp value (insert xs place i)
-    falling-insert falling before after k l h end =
-        let long = length-insert xs place i bound in
-        by_sources (source k (omega (arith, h, end, long))) (source l (omega (arith, end, long)))
+    falling-insert falling before after = λ k l h end.
+        by_sources k l h
+        (source k (omega (arith, h, end, length-insert xs place i bound)))
+        (source l (omega (arith, end, length-insert xs place i bound)))
       where
+        joined : (x y a b : ℕ) → x ≡ a → y ≡ b → IsBefore cmp value a b → IsBefore cmp value x y
+        joined x y a b e f t = subst (λ n. IsBefore cmp value n y) (sym e) (subst (λ n. IsBefore cmp value a n) (sym f) t)
 
-        joined : (a b : ℕ) → get_or (insert xs place i) k 0 ≡ a → get_or (insert xs place i) l 0 ≡ b → IsBefore cmp value a b → IsBefore cmp value (get_or (insert xs place i) k 0) (get_or (insert xs place i) l 0)
-        joined a b e f t = subst (λ x. IsBefore cmp value x (get_or (insert xs place i) l 0)) (sym e) (subst (λ y. IsBefore cmp value a y) (sym f) t)
-
-        by_sources : Source k → Source l → IsBefore cmp value (get_or (insert xs place i) k 0) (get_or (insert xs place i) l 0)
-        by_sources (left_of s e) (left_of t f) = joined (get_or xs k 0) (get_or xs l 0) e f (falling k l h (omega (arith, t, bound)))
-        by_sources (left_of s e) (itself t f) = joined (get_or xs k 0) i e f (before k s)
-        by_sources (left_of s e) (right_of n a b c f) = joined (get_or xs k 0) (get_or xs n 0) e f (falling k n (omega (arith, s, b)) c)
-        by_sources (itself s e) (left_of t f) = absurd (omega (arith, s, t, h))
-        by_sources (itself s e) (itself t f) = absurd (omega (arith, s, t, h))
-        by_sources (itself s e) (right_of n a b c f) = joined i (get_or xs n 0) e f (after n b c)
-        by_sources (right_of m p q r e) (left_of t f) = absurd (omega (arith, p, q, t, h))
-        by_sources (right_of m p q r e) (itself t f) = absurd (omega (arith, p, q, t, h))
-        by_sources (right_of m p q r e) (right_of n a b c f) = joined (get_or xs m 0) (get_or xs n 0) e f (falling m n (omega (arith, p, a, h)) c)
+        by_sources : (k l : ℕ) → k < l → Source k → Source l → IsBefore cmp value (get_or (insert xs place i) k 0) (get_or (insert xs place i) l 0)
+        by_sources k l h (inl s) (inl t) = joined _ _ (get_or xs k 0) (get_or xs l 0) s.1 t.1 (falling k l h (omega (arith, t.0, bound)))
+        by_sources k l h (inl s) (inr (inl t)) = joined _ _ (get_or xs k 0) i s.1 t.1 (before k s.0)
+        by_sources k l h (inl s) (inr (inr t)) = joined _ _ (get_or xs k 0) (get_or xs t.0 0) s.1 t.4 (falling k t.0 (omega (arith, s.0, t.2)) t.3)
+        by_sources k l h (inr (inl s)) (inl t) = absurd (omega (arith, s.0, t.0, h))
+        by_sources k l h (inr (inl s)) (inr (inl t)) = absurd (omega (arith, s.0, t.0, h))
+        by_sources k l h (inr (inl s)) (inr (inr t)) = joined _ _ i (get_or xs t.0 0) s.1 t.4 (after t.0 t.2 t.3)
+        by_sources k l h (inr (inr s)) (inl t) = absurd (omega (arith, s.1, s.2, t.0, h))
+        by_sources k l h (inr (inr s)) (inr (inl t)) = absurd (omega (arith, s.1, s.2, t.0, h))
+        by_sources k l h (inr (inr s)) (inr (inr t)) = joined _ _ (get_or xs s.0 0) (get_or xs t.0 0) s.4 t.4 (falling s.0 t.0 (omega (arith, s.1, t.1, h)) t.3)
 
     pub all-insert : (P : ℕ → Type 0) → ((k : ℕ) → k < length xs → P (get_or xs k 0)) → P i → (k : ℕ) → k < length (insert xs place i) → P (get_or (insert xs place i) k 0)
     all-insert P all last k h = by_source (source k (omega (arith, h, length-insert xs place i bound)))
       where
         by_source : Source k → P (get_or (insert xs place i) k 0)
-        by_source (left_of s e) = subst P (sym e) (all k (omega (arith, s, bound)))
-        by_source (itself s e) = subst P (sym e) last
-        by_source (right_of l a b c e) = subst P (sym e) (all l c)
+        by_source (inl s) = subst P (sym s.1) (all k (omega (arith, s.0, bound)))
+        by_source (inr (inl s)) = subst P (sym s.1) last
+        by_source (inr (inr s)) = subst P (sym s.4) (all s.0 s.3)
 
     pub contains-new : Contains (insert xs place i) i
     contains-new = (place, omega (arith, length-insert xs place i bound, bound), get_or-insert_at xs place i i bound)

@@ -1,9 +1,10 @@
 //! The messages: what neighbours say to each other, round by round, and what is believed then.
 ghost use Rattle.std.specs.Prelude.{◌≡◌, ◌<◌, ◌^◌, ℕ, [], length, slice_index, slice_index_or, IfOk, IfSome, MatchOption, ◌≤◌};
+ghost use Rattle.version_graph.specs.Graph.{Graph};
 ghost use Rattle.version_graph.specs.Domain.{has, IsFor};
 ghost use Rattle.version_graph.specs.Family.{IsStable, IsFilled};
 ghost use Rattle.maxsum_messages.specs.Field.{field, AreFieldsFor};
-ghost use Rattle.maxsum_messages.specs.Post.{IsPostFor, IsSilent, SameSenders};
+ghost use Rattle.maxsum_messages.specs.Post.{IsPostFor, IsSilent};
 ghost use Rattle.maxsum_messages.specs.Round.{IsRound};
 ghost use Rattle.maxsum_messages.specs.Belief.{belief};
 ghost use Rattle.maxsum_messages.specs.Choice.{IsSingle, IsChosen, AreInOrder};
@@ -58,7 +59,7 @@ impl<W: Weight> Messages<W> {
 
     /// Makes every message zero. It takes no memory.
     pub fn reset(&mut self)
-        ensures same { SameSenders self.old self.new }
+        ensures made { (g : Graph) → IsPostFor g self.old → IsPostFor g self.new }
         ensures silent { IsSilent W.none self.new }
     {
         silence_again(&mut self.next);
@@ -76,6 +77,7 @@ impl<W: Weight> Messages<W> {
         requires made { IsFor instance.now domains.now }
         requires closed { IsStable instance.now (has domains.now) }
         requires filled { IsFilled instance.now (has domains.now) }
+        ensures made { IsPostFor instance.now self.new }
         ensures round { IsRound W.none W.plus W.minus W.clip W.cmp instance.now fields.now (has domains.now) self.old self.new }
     {
         hear_all(
