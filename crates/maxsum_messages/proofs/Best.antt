@@ -21,9 +21,9 @@ not_above cmp total a b h = by_answer (cmp a b) h (total.antisymm b a)
 
 pub passed : (n i : ℕ) → i < n + 1 → (i < n) ⊎ (i ≡ n)
 passed n i h = elim (cases_lt i n) [
-    | inl l ↦ inl l
-    | inr l ↦ inr (omega (arith, h, l))
-  ]
+  | inl l ↦ inl l
+  | inr l ↦ inr (omega (arith, h, l))
+]
 
 module _ {W : Type 0} (cmp : W → W → Ordering) (test : ℕ → Bool) (value : ℕ → W) where
   -- the greatest value at a number below n that passes
@@ -41,39 +41,39 @@ module _ {W : Type 0} (cmp : W → W → Ordering) (test : ℕ → Bool) (value 
   module _ (total : IsTotalOrder cmp) where
     first : (n : ℕ) → ((i : ℕ) → i < n → test i ≡ true → ⊥) → test n ≡ true → IsGreatestBelow (n + 1) (value n)
     first n none t = record {
-        place = n;
-        below = omega arith;
-        passes = t;
-        here = refl;
-        most = λ i h u. elim (passed n i h) [
-          | inl l ↦ absurd (none i l u)
-          | inr e ↦ subst (λ k. is_gt (cmp (value k) (value n)) ≡ false) (sym e) (ap is_gt (tied_itself total (value n)))
-        ];
-      }
+      place = n;
+      below = omega arith;
+      passes = t;
+      here = refl;
+      most = λ i h u. elim (passed n i h) [
+        | inl l ↦ absurd (none i l u)
+        | inr e ↦ subst (λ k. is_gt (cmp (value k) (value n)) ≡ false) (sym e) (ap is_gt (tied_itself total (value n)))
+      ];
+    }
 
     kept : (n : ℕ) (best : W) → IsGreatestBelow n best → (test n ≡ true → is_gt (cmp (value n) best) ≡ false) → IsGreatestBelow (n + 1) best
     kept n best b h = record {
-        place = b.place;
-        below = omega (arith, b.below);
-        passes = b.passes;
-        here = b.here;
-        most = λ i l u. elim (passed n i l) [
-          | inl below ↦ b.most i below u
-          | inr e ↦ subst (λ k. is_gt (cmp (value k) best) ≡ false) (sym e) (h (sym (ap test e) ∙ u))
-        ];
-      }
+      place = b.place;
+      below = omega (arith, b.below);
+      passes = b.passes;
+      here = b.here;
+      most = λ i l u. elim (passed n i l) [
+        | inl below ↦ b.most i below u
+        | inr e ↦ subst (λ k. is_gt (cmp (value k) best) ≡ false) (sym e) (h (sym (ap test e) ∙ u))
+      ];
+    }
 
     risen : (n : ℕ) (best : W) → IsGreatestBelow n best → test n ≡ true → is_gt (cmp (value n) best) ≡ true → IsGreatestBelow (n + 1) (value n)
     risen n best b t above = record {
-        place = n;
-        below = omega arith;
-        passes = t;
-        here = refl;
-        most = λ i l u. elim (passed n i l) [
-          | inl below ↦ upto total (value i) best (value n) (b.most i below u) (not_above cmp total (value n) best above)
-          | inr e ↦ subst (λ k. is_gt (cmp (value k) (value n)) ≡ false) (sym e) (ap is_gt (tied_itself total (value n)))
-        ];
-      }
+      place = n;
+      below = omega arith;
+      passes = t;
+      here = refl;
+      most = λ i l u. elim (passed n i l) [
+        | inl below ↦ upto total (value i) best (value n) (b.most i below u) (not_above cmp total (value n) best above)
+        | inr e ↦ subst (λ k. is_gt (cmp (value k) (value n)) ≡ false) (sym e) (ap is_gt (tied_itself total (value n)))
+      ];
+    }
 
     greater : (n : ℕ) (best : W) → IsGreatestBelow n best → test n ≡ true → (b : Bool) → is_gt (cmp (value n) best) ≡ b → IsGreatestBelow (n + 1) (cond b (value n) best)
     greater n best k t true e = risen n best k t e
@@ -81,7 +81,7 @@ module _ {W : Type 0} (cmp : W → W → Ordering) (test : ℕ → Bool) (value 
 
     by_test : (n : ℕ) (best : Option W) → IsBestBelow n best → (b : Bool) → test n ≡ b → IsBestBelow (n + 1) (raised cmp best (value n) b)
     by_test n None none true t = first n none t
-    by_test n None none false t = λ i h u. elim (passed n i h) [ | inl l ↦ none i l u | inr e ↦ let no : test i ≡ false = ap test e ∙ t in absurd (cc) ]
+    by_test n None none false t = λ i h u. elim (passed n i h) [ inl l ↦ none i l u | inr e ↦ let no : test i ≡ false = ap test e ∙ t in absurd (cc) ]
     by_test n (Some best) b true t = greater n best b t (is_gt (cmp (value n) best)) refl
     by_test n (Some best) b false t = kept n best b (λ u. absurd (cc))
 

@@ -55,7 +55,6 @@ module _ {W : Type 0} (cmp : W → W → Ordering) (total : IsTotalOrder cmp) (v
   -- ---- one more in its place
 
   module _ (xs : List ℕ) (place i : ℕ) (bound : place ≤ length xs) where
-
     -- an element of the longer list stood before the place, is the new one, or stood from the place on
     abbrev Source : ℕ → Type 0
     Source k = ((k < place) × (get_or (insert xs place i) k 0 ≡ get_or xs k 0))
@@ -85,15 +84,15 @@ module _ {W : Type 0} (cmp : W → W → Ordering) (total : IsTotalOrder cmp) (v
         joined x y a b e f t = subst (λ n. IsBefore cmp value n y) (sym e) (subst (λ n. IsBefore cmp value a n) (sym f) t)
 
         by_sources : (k l : ℕ) → k < l → Source k → Source l → IsBefore cmp value (get_or (insert xs place i) k 0) (get_or (insert xs place i) l 0)
-        by_sources k l h (inl s) (inl t) = joined _ _ (get_or xs k 0) (get_or xs l 0) s.1 t.1 (falling k l h (omega (arith, t.0, bound)))
-        by_sources k l h (inl s) (inr (inl t)) = joined _ _ (get_or xs k 0) i s.1 t.1 (before k s.0)
-        by_sources k l h (inl s) (inr (inr t)) = joined _ _ (get_or xs k 0) (get_or xs t.0 0) s.1 t.4 (falling k t.0 (omega (arith, s.0, t.2)) t.3)
+        by_sources k l h (inl s) (inl t) = joined (get_or (insert xs place i) k 0) (get_or (insert xs place i) l 0) (get_or xs k 0) (get_or xs l 0) s.1 t.1 (falling k l h (omega (arith, t.0, bound)))
+        by_sources k l h (inl s) (inr (inl t)) = joined (get_or (insert xs place i) k 0) (get_or (insert xs place i) l 0) (get_or xs k 0) i s.1 t.1 (before k s.0)
+        by_sources k l h (inl s) (inr (inr t)) = joined (get_or (insert xs place i) k 0) (get_or (insert xs place i) l 0) (get_or xs k 0) (get_or xs t.0 0) s.1 t.4 (falling k t.0 (omega (arith, s.0, t.2)) t.3)
         by_sources k l h (inr (inl s)) (inl t) = absurd (omega (arith, s.0, t.0, h))
         by_sources k l h (inr (inl s)) (inr (inl t)) = absurd (omega (arith, s.0, t.0, h))
-        by_sources k l h (inr (inl s)) (inr (inr t)) = joined _ _ i (get_or xs t.0 0) s.1 t.4 (after t.0 t.2 t.3)
+        by_sources k l h (inr (inl s)) (inr (inr t)) = joined (get_or (insert xs place i) k 0) (get_or (insert xs place i) l 0) i (get_or xs t.0 0) s.1 t.4 (after t.0 t.2 t.3)
         by_sources k l h (inr (inr s)) (inl t) = absurd (omega (arith, s.1, s.2, t.0, h))
         by_sources k l h (inr (inr s)) (inr (inl t)) = absurd (omega (arith, s.1, s.2, t.0, h))
-        by_sources k l h (inr (inr s)) (inr (inr t)) = joined _ _ (get_or xs s.0 0) (get_or xs t.0 0) s.4 t.4 (falling s.0 t.0 (omega (arith, s.1, t.1, h)) t.3)
+        by_sources k l h (inr (inr s)) (inr (inr t)) = joined (get_or (insert xs place i) k 0) (get_or (insert xs place i) l 0) (get_or xs s.0 0) (get_or xs t.0 0) s.4 t.4 (falling s.0 t.0 (omega (arith, s.1, t.1, h)) t.3)
 
     pub all-insert : (P : ℕ → Type 0) → ((k : ℕ) → k < length xs → P (get_or xs k 0)) → P i → (k : ℕ) → k < length (insert xs place i) → P (get_or (insert xs place i) k 0)
     all-insert P all last k h = by_source (source k (omega (arith, h, length-insert xs place i bound)))

@@ -42,7 +42,7 @@ module _ {W : Type 0} (cmp : W → W → Ordering) (minus : W → W → W) (d : 
 
     -- the same of every package below n + 1
     below_next : (P : ℕ → Type 0) (n : ℕ) → ((q : ℕ) → q < n → P q) → P n → (q : ℕ) → q < n + 1 → P q
-    below_next P n all last q h = elim (passed n q h) [ | inl l ↦ all q l | inr e ↦ subst P (sym e) last ]
+    below_next P n all last q h = elim (passed n q h) [ inl l ↦ all q l | inr e ↦ subst P (sym e) last ]
 
     itself : (n : ℕ) (lead : W) → IsLead cmp minus (d n) (value n) lead → Trails cmp minus (d n) (value n) lead
     itself n lead l = inr (lead, l, ap is_gt (tied_itself total lead))
@@ -50,32 +50,32 @@ module _ {W : Type 0} (cmp : W → W → Ordering) (minus : W → W → W) (d : 
     compared : (n : ℕ) (best : ℕ × W) (lead : W) → IsChosenBelow n best.0 best.1 → IsLead cmp minus (d n) (value n) lead → (b : Bool) → is_gt (cmp lead best.1) ≡ b →
         IsLedBelow (n + 1) (cond b (Some (n, lead)) (Some best))
     compared n best lead c l true e = record {
-        known = omega arith;
-        led = l;
-        most = below_next (λ q. Trails cmp minus (d q) (value q) lead) n (λ q h. trails_more q best.1 lead e (c.most q h)) (itself n lead l);
-        least = λ q h. trails_clearly q best.1 lead e (c.most q h);
-      }
+      known = omega arith;
+      led = l;
+      most = below_next (λ q. Trails cmp minus (d q) (value q) lead) n (λ q h. trails_more q best.1 lead e (c.most q h)) (itself n lead l);
+      least = λ q h. trails_clearly q best.1 lead e (c.most q h);
+    }
     compared n best lead c l false e = record {
-        known = omega (arith, c.known);
-        led = c.led;
-        most = below_next (λ q. Trails cmp minus (d q) (value q) best.1) n c.most (inr (lead, l, e));
-        least = c.least;
-      }
+      known = omega (arith, c.known);
+      led = c.led;
+      most = below_next (λ q. Trails cmp minus (d q) (value q) best.1) n c.most (inr (lead, l, e));
+      least = c.least;
+    }
 
     pub led-more : (n : ℕ) (best : Option (ℕ × W)) (lead : Option W) → IsLedBelow n best → HasLead cmp minus (d n) (value n) lead → IsLedBelow (n + 1) (leading cmp best n lead)
     led-more n None None b h = below_next (λ q. IsSingle (d q)) n b h
     led-more n None (Some lead) b h = record {
-        known = omega arith;
-        led = h;
-        most = below_next (λ q. Trails cmp minus (d q) (value q) lead) n (λ q l. inl (b q l)) (itself n lead h);
-        least = λ q l. inl (b q l);
-      }
+      known = omega arith;
+      led = h;
+      most = below_next (λ q. Trails cmp minus (d q) (value q) lead) n (λ q l. inl (b q l)) (itself n lead h);
+      least = λ q l. inl (b q l);
+    }
     led-more n (Some best) None b h = record {
-        known = omega (arith, b.known);
-        led = b.led;
-        most = below_next (λ q. Trails cmp minus (d q) (value q) best.1) n b.most (inl h);
-        least = b.least;
-      }
+      known = omega (arith, b.known);
+      led = b.led;
+      most = below_next (λ q. Trails cmp minus (d q) (value q) best.1) n b.most (inl h);
+      least = b.least;
+    }
     led-more n (Some best) (Some lead) b h = compared n best lead b h (is_gt (cmp lead best.1)) refl
 
   pub led-end : (n m : ℕ) (best : Option (ℕ × W)) → IsLedBelow n best → n ≡ m → MatchOption (package_of best) ((q : ℕ) → q < m → IsSingle (d q)) (IsChosen cmp minus m d value)
@@ -104,7 +104,7 @@ module _ {W : Type 0} (cmp : W → W → Ordering) (minus : W → W → W) (test
   lead-one k none = λ i j t u. same i t ∙ sym (same j u)
     where
       same : (i : ℕ) → test i ≡ true → i ≡ k
-      same i t = elim (eqb_tells i k) [ | inl e ↦ e.1 | inr e ↦ absurd (none i (other i k t e.1)) ]
+      same i t = elim (eqb_tells i k) [ inl e ↦ e.1 | inr e ↦ absurd (none i (other i k t e.1)) ]
 
   pub lead-two : (k l : ℕ) (lead : W) → IsGreatest (λ a b. cmp (value a) (value b)) (λ i. test i && not (is_skipped None i)) (λ i. i) k →
       IsGreatest (λ a b. cmp (value a) (value b)) (λ i. test i && not (is_skipped (Some k) i)) (λ i. i) l → lead ≡ minus (value k) (value l) → HasLead cmp minus test value (Some lead)

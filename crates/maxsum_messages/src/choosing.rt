@@ -85,12 +85,7 @@ fn best_but<W: Weight>(
 }
 
 /// How far the best belief of a state of p's domain is above the second best, if there are two states.
-fn lead_of<W: Weight>(
-    inbox: &Inbox<W>,
-    fields: &Fields<W>,
-    domains: &Domains,
-    p: u32,
-) -> Option<W>
+fn lead_of<W: Weight>(inbox: &Inbox<W>, fields: &Fields<W>, domains: &Domains, p: u32) -> Option<W>
     requires known { p < length inbox.now.sizes }
     requires aligned { AreAligned inbox.now.sizes fields.now domains.now }
     ensures { HasLead W.cmp W.minus (has domains.now p) (belief W.none W.plus fields.now inbox.now p) result }
@@ -106,13 +101,7 @@ fn lead_of<W: Weight>(
 }
 
 /// How far the belief of the first state is above that of the second.
-fn difference<W: Weight>(
-    inbox: &Inbox<W>,
-    fields: &Fields<W>,
-    p: u32,
-    first: u32,
-    second: u32,
-) -> W
+fn difference<W: Weight>(inbox: &Inbox<W>, fields: &Fields<W>, p: u32, first: u32, second: u32) -> W
     requires known { p < length inbox.now.sizes }
     requires field_row { p < length fields.now }
     requires field_places { length (slice_index_or fields.now p []) ≡ slice_index inbox.now.sizes p }

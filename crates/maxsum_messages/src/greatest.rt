@@ -76,12 +76,7 @@ fn is_partner(instance: &Instance, domains: &Domains, p: u32, i: u32, q: u32, j:
 }
 
 /// The greatest weight of a state of q's domain. There is one.
-pub(crate) fn best_state<W: Weight>(
-    domains: &Domains,
-    q: u32,
-    count: u32,
-    weights: &[W],
-) -> W
+pub(crate) fn best_state<W: Weight>(domains: &Domains, q: u32, count: u32, weights: &[W]) -> W
     requires known { q < length domains.now }
     requires states { length (row domains.now q) ≡ count }
     requires room { count ≤ length weights.now }

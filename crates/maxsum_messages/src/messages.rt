@@ -107,12 +107,7 @@ impl<W: Weight> Messages<W> {
     /// states of its domain are left in the order in which they are tried: by belief, the greatest first,
     /// and of equal beliefs the greater number first. None comes exactly where no domain has two states. It
     /// takes no memory.
-    pub fn choose(
-        &self,
-        fields: &Fields<W>,
-        domains: &Domains,
-        order: &mut Order,
-    ) -> Option<u32>
+    pub fn choose(&self, fields: &Fields<W>, domains: &Domains, order: &mut Order) -> Option<u32>
         requires aligned { AreAligned self.now.sizes fields.now domains.now }
         requires room { (p : ℕ) → p < length self.now.sizes → slice_index self.now.sizes p ≤ order.old.room }
         ensures answer { MatchOption result ((p : ℕ) → p < length self.now.sizes → IsSingle (has domains.now p)) (IsChosen W.cmp W.minus (length self.now.sizes) (has domains.now) (belief W.none W.plus fields.now self.now)) }

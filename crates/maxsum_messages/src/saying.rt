@@ -177,7 +177,14 @@ pub(crate) fn say<W: Weight>(
     ensures small { (j : ℕ) → j < states instance.now q → W.is_within (2 ^ 40) (field W.none grid.new k j) }
 {
     weigh(inbox, fields, p, q, instance.states(p), &mut desk.weights);
-    gather(instance, domains, p, q, desk.weights.as_slice(), &mut desk.raw);
+    gather(
+        instance,
+        domains,
+        p,
+        q,
+        desk.weights.as_slice(),
+        &mut desk.raw,
+    );
     let size = instance.states(q);
     let top = best_state(domains, q, size, desk.raw.as_slice());
     lower(domains, q, k, size, desk.raw.as_slice(), top, grid);

@@ -25,5 +25,5 @@ returns g c =
     let cmp = λ (a b : ℕ). g.W.Ord.cmp (value a) (value b) in
     best-found cmp (λ i. has c.args.domains.now c.args.p i && not (is_skipped c.args.skip i)) (on_total value g.met.W.Ord.total) c.loop-i.i c.loop-i.best c.loop-i.invariant
     (λ i t.
-        let there = in-range c.args.domains.now c.args.p i (both-first _ _ t) in
-        omega (arith, there, c.requires.aligned.domain_places c.args.p c.requires.known, c.size-i-end.ensures))
+    let there = in-range c.args.domains.now c.args.p i (both-first _ _ t) in
+    omega (arith, there, c.requires.aligned.domain_places c.args.p c.requires.known, c.size-i-end.ensures))

@@ -19,5 +19,5 @@ returns-clause-order g c =
     let value = belief g.W.Weight.none g.W.Weight.plus c.args.fields.now c.args.inbox.now c.args.p in
     in-order-end g.W.Ord.cmp g.met.W.Ord.total value (has c.args.domains.now c.args.p) c.loop-i.i c.loop-i.states.items c.loop-i.invariant.sorted
     (λ i t.
-        let there = in-range c.args.domains.now c.args.p i t in
-        omega (arith, there, c.requires.aligned.domain_places c.args.p c.requires.known, c.size-i-end.ensures))
+    let there = in-range c.args.domains.now c.args.p i t in
+    omega (arith, there, c.requires.aligned.domain_places c.args.p c.requires.known, c.size-i-end.ensures))

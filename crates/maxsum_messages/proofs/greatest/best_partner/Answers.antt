@@ -23,8 +23,8 @@ returns-in-Some g c =
     let value = λ (i : ℕ). get_or c.args.weights.now i g.W.Weight.none in
     best-end cmp test value g.met.W.Ord.total c.loop-i.i c.in-Some.weight (subst (IsBestBelow cmp test value c.loop-i.i) c.in-Some.is c.loop-i.invariant)
     (λ i t.
-        let there = in-range c.args.domains.now c.args.p i (both-first _ _ t) in
-        omega (arith, there, c.requires.made.wide c.args.p c.requires.first, c.states-i-end.ensures.count))
+    let there = in-range c.args.domains.now c.args.p i (both-first _ _ t) in
+    omega (arith, there, c.requires.made.wide c.args.p c.requires.first, c.states-i-end.ensures.count))
 
 pub returns-in-None : goal.returns-in-None
 returns-in-None g c =

@@ -31,7 +31,7 @@ loop-k-preserved g c =
       places = λ r. c.say.ensures.places r ∙ inv.places r;
       said = below_more P k
           (λ r h. message-same none plus minus clip cmp graph d _ (get_or xs r 0) c.args.q (cell none c.loop-k.grid r) (cell none c.say.new.grid r)
-              (λ j. c.say.ensures.others r j (λ e. absurd (omega (arith, h, e)))) (inv.said r h))
+          (λ j. c.say.ensures.others r j (λ e. absurd (omega (arith, h, e)))) (inv.said r h))
           (subst (λ ys. IsMessage none plus minus clip cmp graph d (weight_for none plus c.args.fields.now c.args.inbox.now c.args.q (get_or ys k 0)) (get_or ys k 0) c.args.q (cell none c.say.new.grid k)) list c.say.ensures.said);
       small = λ r j h l. elim (cases_lt r k) [
         | inl below ↦ subst (g.W.Weight.is_within (2 ^ 40)) (sym (c.say.ensures.others r j (λ e. absurd (omega (arith, below, e))))) (inv.small r j below l)

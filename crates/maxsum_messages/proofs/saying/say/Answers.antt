@@ -31,15 +31,15 @@ returns-clause-said g c =
     let size = c.states-size.ensures.count in
     let lowered = λ (j : ℕ). g.W.Weight.clip (g.W.Weight.minus (raw j) top) in
     let written : (j : ℕ) → j < states graph q → cell none c.lower.new.grid c.args.k j ≡ cond (has d q j) (lowered j) none = λ j h.
-        c.lower.ensures.said j (omega (arith, h, size)) ∙ ap (λ xs. cond (has d q j) (g.W.Weight.clip (g.W.Weight.minus (get_or xs j none) top)) none) c.as_slice-3.ensures.value in
+    c.lower.ensures.said j (omega (arith, h, size)) ∙ ap (λ xs. cond (has d q j) (g.W.Weight.clip (g.W.Weight.minus (get_or xs j none) top)) none) c.as_slice-3.ensures.value in
     let long : length (get_or c.lower.new.grid c.args.k []) ≡ states graph q = c.lower.ensures.places c.args.k ∙ c.requires.grid_places in
     record {
       raw = raw;
       top = top;
       best = λ j t. greatest-same cmp (λ i. has d p i && not (is_forbidden graph p i q j)) (λ i. get_or c.as_slice.result.now i none) (weight_for none g.W.Weight.plus c.args.fields.now c.args.inbox.now q p) (raw j)
           (λ i u.
-              let there = in-range d p i (both-first _ _ u) in
-              ap (λ xs. get_or xs i none) c.as_slice.ensures.value ∙ c.weigh.ensures.weights i (omega (arith, there, c.requires.made.wide p c.requires.first, c.states.ensures.count)))
+          let there = in-range d p i (both-first _ _ u) in
+          ap (λ xs. get_or xs i none) c.as_slice.ensures.value ∙ c.weigh.ensures.weights i (omega (arith, there, c.requires.made.wide p c.requires.first, c.states.ensures.count)))
           (c.gather.ensures.best j t);
       highest = subst (λ xs. IsGreatest cmp (has d q) (λ i. get_or xs i none) top) c.as_slice-2.ensures.value c.best_state-top.ensures;
       inside = λ j t. written j (let there = in-range d q j t in omega (arith, there, wide)) ∙ ap (λ b. cond b (lowered j) none) t;

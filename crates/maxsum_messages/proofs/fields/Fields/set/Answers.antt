@@ -23,6 +23,8 @@ either P true v w h k = h
 either P false v w h k = k
 
 pub invariant_of-self : goal.invariant_of-self
-invariant_of-self g c = record { at = λ q j.
-    subst (g.W.Weight.is_within (2 ^ 24)) (sym (after g c q j))
-    (either (g.W.Weight.is_within (2 ^ 24)) (is_state q j c.args.p c.args.i) c.args.w (cell g.W.Weight.none c.self.inside.grid q j) c.requires.small (c.self.invariant.at q j)) }
+invariant_of-self g c = record {
+  at = λ q j.
+      subst (g.W.Weight.is_within (2 ^ 24)) (sym (after g c q j))
+      (either (g.W.Weight.is_within (2 ^ 24)) (is_state q j c.args.p c.args.i) c.args.w (cell g.W.Weight.none c.self.inside.grid q j) c.requires.small (c.self.invariant.at q j));
+}

@@ -39,7 +39,7 @@ without g c =
     ∙ ap (λ a. g.W.Weight.minus a c.get.result) c.belief-all.ensures.belief
     ∙ ap (g.W.Weight.minus (plus (field none c.args.fields.now c.args.p c.args.i) (heard none plus c.args.i (said_to m c.args.p)))) (own g c.before)
     ∙ taken-off none plus g.W.Weight.minus g.met.W.Weight.plus_comm g.met.W.Weight.plus_assoc g.met.W.Weight.minus_plus (field none c.args.fields.now c.args.p c.args.i)
-      c.args.q c.args.i (senders_of m c.args.p) (said_to m c.args.p) c.in-Some.k (k.senders c.args.p c.requires.known).rising (k.shaped.answered c.args.p c.requires.known) place.0 place.1
+    c.args.q c.args.i (senders_of m c.args.p) (said_to m c.args.p) c.in-Some.k (k.senders c.args.p c.requires.known).rising (k.shaped.answered c.args.p c.requires.known) place.0 place.1
 
 pub returns-in-Some-clause-weight : goal.returns-in-Some-clause-weight
 returns-in-Some-clause-weight g c = without g c
@@ -61,4 +61,4 @@ returns-in-None-clause-weight g c =
     let k = subst (λ m. IsKept (g.W.Weight.is_within (2 ^ 40)) none plus m c.self.inside.sums) c.self.view_is c.self.invariant in
     c.belief-all.ensures.belief
     ∙ ap (plus (field none c.args.fields.now c.args.p c.args.i))
-      (sym (heard-absent none plus c.args.i c.args.q (senders_of m c.args.p) (said_to m c.args.p) (k.shaped.answered c.args.p c.requires.known) (subst (IsPlaceOf (senders_of m c.args.p) c.args.q) c.in-None.is c.requires.own)))
+    (sym (heard-absent none plus c.args.i c.args.q (senders_of m c.args.p) (said_to m c.args.p) (k.shaped.answered c.args.p c.requires.known) (subst (IsPlaceOf (senders_of m c.args.p) c.args.q) c.in-None.is c.requires.own)))

@@ -23,7 +23,7 @@ returns-clause-round g c =
     let plus = g.W.Weight.plus in
     let new = c.hear_all.new.next.items in
     let Q = λ (q k : ℕ) (m : Post _) (said : List (List (List _))). IsMessage none plus g.W.Weight.minus g.W.Weight.clip g.W.Ord.cmp c.args.instance.now (has c.args.domains.now)
-        (weight_for none plus c.args.fields.now m q (get_or (senders_of m q) k 0)) (get_or (senders_of m q) k 0) q (cell none (get_or said q []) k) in
+    (weight_for none plus c.args.fields.now m q (get_or (senders_of m q) k 0)) (get_or (senders_of m q) k 0) q (cell none (get_or said q []) k) in
     record {
       same = record {
         sizes = c.take.ensures.sizes ∙ ap (λ (m : Post _). m.sizes) c.self.view_is;
