@@ -8,7 +8,7 @@ use version_graph::{GraphFault, Instance};
 
 // two roots with two versions each that need the third package: the greater version of one takes only its greater one,
 // that of the other only its less one
-fn two_that_share(alloc: Global) -> Result<Instance, GraphFault> {
+pub(crate) fn two_that_share(alloc: Global) -> Result<Instance, GraphFault> {
     let pairs = [
         (0, 0, 2, 2),
         (0, 1, 2, 2),
