@@ -1,7 +1,8 @@
 -- What closing the domains answers. (own rule: the closure is a condition, see the crate of instances)
-use Rattle.std.specs.Prelude.{◌≡◌, ℕ}
+use Rattle.std.specs.Prelude.{◌≡◌, ℕ, true, length}
 use Rattle.version_graph.specs.Graph.{Graph}
 use Rattle.version_graph.specs.Family.{Family, IsFilled, IsClosureOf, HasEmpty}
+use Rattle.version_graph.specs.Noted.{History, is_settled_at}
 use Rattle.graph_pruning.specs.declared.closing.Closed.{Closed}
 use Rattle.graph_pruning.specs.declared.closing.Closed.TheVariants.{Stable, Empty}
 
@@ -19,3 +20,8 @@ pub record IsEmptied (g : Graph) (old : Family) (least : ℕ) : Type 0 where
 abbrev pub ClosesTo : Graph → Family → Family → Closed → Type 0
 ClosesTo g old new Stable = IsClosedFrom g old new
 ClosesTo g old new (Empty p) = IsEmptied g old p
+
+-- where the answer is stable, the trail says so of its present length
+abbrev pub SaysSettled : Closed → History → Type 0
+SaysSettled Stable t = is_settled_at t (length t.notes) ≡ true
+SaysSettled (Empty p) t = Unit {0}

@@ -4,7 +4,7 @@ ghost use Rattle.version_graph.specs.Graph.{Graph, packages, states};
 ghost use Rattle.version_graph.specs.Family.{LiesBetween, HasEmpty, Meets};
 ghost use Rattle.version_graph.specs.Domain.{Rows, has};
 ghost use Rattle.version_graph.specs.Noted.{History, Holds, IsSettled, is_settled_at};
-ghost use Rattle.graph_pruning.specs.Closing.{ClosesTo};
+ghost use Rattle.graph_pruning.specs.Closing.{ClosesTo, SaysSettled};
 ghost use Rattle.graph_pruning.specs.Spread.{Shrinks, IsClear, AreClear, Extends};
 
 use version_graph::{Domains, Instance, Trail};
@@ -21,13 +21,15 @@ pub enum Closed {
 /// Takes out of the domains what isn't in their closure: the largest family within them in which each state
 /// has an allowed partner in every other package's domain. Where a domain of the closure is empty, so are
 /// all, and the domains are left somewhere between the old ones and the closure. Each state that is taken
-/// out is noted after the trail's earlier notes. It takes no memory.
+/// out is noted after the trail's earlier notes, and at Stable the trail says that the domains are settled at
+/// its present length. It takes no memory.
 pub fn close(instance: &Instance, domains: &mut Domains, trail: &mut Trail) -> Closed
     requires { Holds instance.now domains.old trail.old }
     ensures answer { ClosesTo instance.now (has domains.old) (has domains.new) result }
     ensures between { LiesBetween instance.now (has domains.old) (has domains.new) }
     ensures earlier { take (length trail.old.notes) trail.new.notes ≡ trail.old.notes }
     ensures keeps { Holds instance.now domains.new trail.new }
+    ensures settled { SaysSettled result trail.new }
 {
     match begin(instance, domains, trail) {
         None => Closed::Empty(0),
@@ -65,7 +67,9 @@ fn begin(instance: &Instance, domains: &mut Domains, trail: &mut Trail) -> Optio
 
 /// The greatest length at or below the present one at which the domains are known to have been settled.
 fn settled_mark(trail: &Trail) -> Option<u32>
-    ensures { IfSome result (λ mark. (mark ≤ length trail.now.notes) × (is_settled_at trail.now mark ≡ true)) }
+    ensures { MatchOption result
+        ((k : ℕ) → k ≤ length trail.now.notes → is_settled_at trail.now k ≡ false)
+        (λ mark. (mark ≤ length trail.now.notes) × (is_settled_at trail.now mark ≡ true) × ((k : ℕ) → mark < k → k ≤ length trail.now.notes → is_settled_at trail.now k ≡ false)) }
 {
     let present = trail.mark();
     if trail.is_settled(present) {
