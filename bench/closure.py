@@ -15,15 +15,23 @@ MAIN = r"""//! Makes an instance, and closes its domains after one choice at a t
 mod drive;
 
 use anyhow::Result;
-use drive::{mesh_pairs, net_pairs, rounds, world};
+use graph_pruning::{Closed, close};
+use std::alloc::{AllocError, Global};
+use drive::{general, mesh_pairs, net_pairs, rounds, world};
 use std::env;
-use version_graph::{Domains, Trail};
+use version_graph::{Domains, Instance, Trail};
 
 fn number(word: Option<String>) -> u32 {
     match word {
         Some(text) => text.as_str().parse::<u32>().unwrap_or(0),
         None => 0,
     }
+}
+
+fn close_once(alloc: Global, instance: &Instance) -> Result<bool, AllocError> {
+    let mut domains = Domains::full(alloc, instance)?;
+    let mut trail = Trail::make(alloc, instance)?;
+    Ok(close(instance, &mut domains, &mut trail) == Closed::Stable)
 }
 
 fn main(rt: HostRuntime) -> Result<()> {
@@ -35,6 +43,14 @@ fn main(rt: HostRuntime) -> Result<()> {
     let states = number(words.next());
     let times = number(words.next());
     if states == 0 {
+        return Ok(());
+    }
+    if mesh == 2 {
+        let closed = match general(alloc, packages, states) {
+            Ok(instance) => close_once(alloc, &instance)?,
+            Err(_) => false,
+        };
+        println!(rt; "{closed}")?;
         return Ok(());
     }
     let pairs = if mesh == 1 {
@@ -62,7 +78,7 @@ fn main(rt: HostRuntime) -> Result<()> {
 """
 
 DRIVE = r"""//! Instances, and closing them after one choice at a time.
-ghost use Rattle.std.specs.Prelude.{◌<◌, ◌↔◌, IsTrue, length, slice_index};
+ghost use Rattle.std.specs.Prelude.{◌≡◌, ◌<◌, ◌↔◌, IsTrue, length, slice_index};
 ghost use Rattle.version_graph.specs.Noted.{Holds};
 
 use graph_pruning::{close, undo_to};
@@ -101,6 +117,48 @@ fn push_thirds(pairs: &mut Pairs, p: u32, q: u32, states: u32) -> Result<(), All
         for j in 0..states {
             if i.wrapping_add(j).wrapping_add(p) % 3 == 0 {
                 pairs.push((p, i, q, j))?;
+            }
+        }
+    }
+    Ok(())
+}
+
+/// Packages of so many states each, each with those 1, 7 and 31 further on, and the first six tenths with the one
+/// 101 further on; somewhat more than half of the pairs of each two are forbidden.
+pub fn general(alloc: Global, packages: u32, states: u32) -> Result<Instance, GraphFault>
+    requires { 0 < states }
+{
+    let sizes = vec![in alloc; states; packages as usize]?;
+    let mut builder = InstanceBuilder::make(alloc, sizes.as_slice())?;
+    for p in 0..packages {
+        forbid_block(&mut builder, sizes.as_slice(), p, p.wrapping_add(1) % packages, states)?;
+        forbid_block(&mut builder, sizes.as_slice(), p, p.wrapping_add(7) % packages, states)?;
+        forbid_block(&mut builder, sizes.as_slice(), p, p.wrapping_add(31) % packages, states)?;
+        if p % 10 < 6 {
+            forbid_block(&mut builder, sizes.as_slice(), p, p.wrapping_add(101) % packages, states)?;
+        }
+    }
+    builder.finish(alloc)
+}
+
+fn forbid_block(
+    builder: &mut InstanceBuilder,
+    sizes: &[u32],
+    p: u32,
+    q: u32,
+    states: u32,
+) -> Result<(), GraphFault>
+    requires { builder.old.sizes ≡ sizes.now }
+    ensures { builder.new.sizes ≡ sizes.now }
+{
+    for i in 0..states {
+        for j in 0..states {
+            if i.wrapping_add(j).wrapping_add(p) % 20 < 11
+                && p != q
+                && has_state(sizes, p, i)
+                && has_state(sizes, q, j)
+            {
+                builder.forbid_pair(p, i, q, j)?;
             }
         }
     }
@@ -180,10 +238,29 @@ invariant-loop-p l = Holds l.instance l.domains l.trail
 """
 
 
+GENERAL = """use Rattle.std.proofs.Common.{◌≡◌}
+use Rattle.closure_bench.proofs.drive.general.Given as goal
+
+abbrev pub invariant-loop-p : goal.invariant-loop-p
+invariant-loop-p l = l.builder.sizes ≡ l.sizes.items
+"""
+
+BLOCK = """use Rattle.std.proofs.Common.{◌≡◌}
+use Rattle.closure_bench.proofs.drive.forbid_block.Given as goal
+
+abbrev pub invariant-loop-i : goal.invariant-loop-i
+invariant-loop-i l = l.builder.sizes ≡ l.sizes
+
+abbrev pub invariant-loop-j : goal.invariant-loop-j
+invariant-loop-j l = l.builder.sizes ≡ l.sizes
+"""
+
 FILES = {
     "src/main.rt": MAIN,
     "src/drive.rt": DRIVE,
     "proofs/drive/world/Invariants.antt": WORLD,
+    "proofs/drive/general/Invariants.antt": GENERAL,
+    "proofs/drive/forbid_block/Invariants.antt": BLOCK,
     "proofs/drive/rounds/Invariants.antt": ROUNDS,
 }
 
@@ -192,19 +269,21 @@ def main():
     top = tempfile.mkdtemp(prefix="closure-bench-")
     try:
         program = built(top, "closure_bench", ["graph_pruning", "version_graph", "anyhow"], FILES)
-        for packages, times in [(300, 900), (3000, 90)]:
-            without, _, _ = timed(program, 0, packages, 9, 0)
-            seconds, memory, taken = timed(program, 0, packages, 9, times)
+        for packages, states, times in [(300, 9, 900), (3000, 9, 90), (300, 64, 90)]:
+            without, _, _ = timed(program, 0, packages, states, 0)
+            seconds, memory, taken = timed(program, 0, packages, states, times)
             closures = packages * times
             each = (seconds - without) / closures
             print(
-                f"{packages} packages of 9 states: {closures} closures and undos, {1 / each:.0f} a second, "
+                f"{packages} packages of {states} states: {closures} closures and undos, {1 / each:.0f} a second, "
                 f"{each * 1e6:.1f} microseconds each, {int(taken) / closures:.1f} states taken out each, "
                 f"made and closed first in {without:.2f} seconds, {memory} KiB at most"
             )
-        for states in [40, 32]:
-            seconds, memory, printed = timed(program, 1, 1024, states, 0)
-            print(f"1024 packages of {states} states: {printed} in {seconds:.2f} seconds, {memory} KiB at most")
+        for packages, states in [(1024, 40), (1024, 32), (4096, 2), (2, 32768)]:
+            seconds, memory, printed = timed(program, 1, packages, states, 0)
+            print(f"{packages} packages of {states} states: {printed} in {seconds:.2f} seconds, {memory} KiB at most")
+        seconds, memory, printed = timed(program, 2, 500, 45, 0)
+        print(f"500 packages of 45 states: closed {printed} in {seconds:.2f} seconds, {memory} KiB at most")
     finally:
         shutil.rmtree(top)
 
