@@ -22,8 +22,6 @@ fn rows_and_tables_hold_what_is_set(rt: HostRuntime) -> Result<(), Fail> {
         [true, false]
     );
     table.and_into(1, &mut row);
-    assert_eq!(rt; [row.get(3), row.get(69)], [false, true]);
-    table.fill();
-    assert!(rt; table.equal(0, 1, &row));
+    assert_eq!(rt; count(&row), 1);
     Ok(())
 }
