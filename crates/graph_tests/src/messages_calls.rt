@@ -1,5 +1,5 @@
 //! Messages between two roots and the package that they share: the beliefs after eight rounds, and the choice.
-ghost use Rattle.std.specs.Prelude.{◌^◌, ◌×◌, IfOk, IfSome};
+ghost use Rattle.std.specs.Prelude.{◌^◌, IfOk, IfSome};
 ghost use Rattle.version_graph.specs.Domain.{has, IsFor};
 ghost use Rattle.version_graph.specs.Family.{IsStable, IsFilled};
 ghost use Rattle.maxsum_messages.specs.Field.{AreFieldsFor};
