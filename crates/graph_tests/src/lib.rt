@@ -9,8 +9,6 @@ mod graph_calls;
 #[cfg(test)]
 mod lex_weights_calls;
 #[cfg(test)]
-mod messages_calls;
-#[cfg(test)]
 mod pruning_calls;
 #[cfg(test)]
 mod raising_calls;
