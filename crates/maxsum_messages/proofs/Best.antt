@@ -1,15 +1,16 @@
 -- A search for the greatest value, number by number.
-use Rattle.std.proofs.Common.{◌≡◌, ◌≢◌, ℕ, ◌+◌, ◌<◌, ◌≤◌, Bool, true, false, cond, ◌&&◌, not, refl, sym, ◌∙◌, subst, ap, arith, Option, None, Some, MatchOption, IfSome, ◌⊎◌, inl, inr}
+use Rattle.std.proofs.Common.{◌≡◌, ◌≢◌, ℕ, ◌+◌, ◌<◌, ◌≤◌, Bool, true, false, cond, ◌&&◌, refl, sym, ◌∙◌, subst, ap, arith, Option, None, Some, MatchOption, IfSome, ◌⊎◌, inl, inr}
 use Rattle.std.proofs.lemmas.Bool.{cases_lt, lt-ltb, le-ltb}
 use Rattle.version_graph.specs.Graph.{Graph, is_forbidden}
-use Rattle.std.proofs.Common.{length, get_or, []}
+use Rattle.std.proofs.Common.{length, get_or}
 use Rattle.std.proofs.lemmas.List.{get_or_past}
 use Rattle.version_graph.specs.Domain.{Rows, has, row}
 use Rattle.std.specs.Ordering.{is_gt, ordering_reverse}
 use Rattle.std.specs.declared.cmp.Ordering.{Ordering}
 use Rattle.std.specs.declared.cmp.Ordering.TheVariants.{Less, Equal, Greater}
 use Rattle.std.specs.Cmp.{IsTotalOrder, upto, tied_itself}
-use Rattle.maxsum_messages.specs.Greatest.{IsGreatest, raised}
+use Rattle.maxsum_messages.specs.Greatest.{IsGreatest}
+use Rattle.maxsum_messages.specs.Searched.{raised}
 
 pub not_above : {W : Type 0} (cmp : W → W → Ordering) → IsTotalOrder cmp → (a b : W) → is_gt (cmp a b) ≡ true → is_gt (cmp b a) ≡ false
 not_above cmp total a b h = by_answer (cmp a b) h (total.antisymm b a)

@@ -1,9 +1,9 @@
 -- How great sums of at most 4,095 messages and a field can be.
-use Rattle.std.proofs.Common.{◌≡◌, ℕ, ◌+◌, ◌*◌, ◌^◌, ◌<◌, ◌≤◌, List, [], length, get_or, subst, sym, arith, ap, ◌∙◌}
+use Rattle.std.proofs.Common.{◌≡◌, ℕ, ◌+◌, ◌*◌, ◌^◌, ◌<◌, ◌≤◌, List, length, get_or, sym, arith, ap, ◌∙◌}
 use Rattle.maxsum_messages.specs.Post.{Post, heard, heard_but, senders_of, said_to}
 use Rattle.maxsum_messages.specs.Kept.{IsKept}
 use Rattle.maxsum_messages.proofs.Rows.{cell}
-use Rattle.maxsum_messages.proofs.Sums.{heard-within, heard_but-within, heard-own, heard-absent}
+use Rattle.maxsum_messages.proofs.Sums.{heard-within, heard_but-within, heard-own}
 use Rattle.std.specs.List.Sorted.{IsStrictlyIncreasing}
 
 module _ {W : Type 0} (Within : ℕ → W → Type 0) (none : W) (plus : W → W → W) (zero_in : Within 0 none) (sum_in : (m n : ℕ) (a b : W) → Within m a → Within n b → Within (m + n) (plus a b)) (more : (m n : ℕ) (a : W) → Within m a → m ≤ n → Within n a) where

@@ -1,14 +1,13 @@
 -- Lists of rows: reading and writing one place.
-use Rattle.std.proofs.Common.{◌≡◌, ℕ, zero, suc, ◌+◌, ◌<◌, ◌≤◌, Bool, true, false, cond, List, [], ◌∷◌, ◌++◌, length, get_or, set, map, replicate, refl, sym, ◌∙◌, subst, ap, arith, inl, inr, eqb}
+use Rattle.std.proofs.Common.{◌≡◌, ℕ, zero, suc, ◌+◌, ◌<◌, Bool, true, false, cond, List, [], ◌∷◌, ◌++◌, length, get_or, set, replicate, refl, sym, ◌∙◌, subst, ap, arith, inl, inr, eqb}
 use Rattle.std.proofs.lemmas.Bool.{cases_lt}
 use Rattle.std.proofs.lemmas.Bool.Decides.{eqb_tells}
-use Rattle.std.proofs.lemmas.List.{map-set, get_or-map, length-map, map-append, set_past, get_or_past, get_or-set_same, get_or-set_other, length-set, get_or_append_left}
+use Rattle.std.proofs.lemmas.List.{get_or-map, length-map, map-append, set_past, get_or_past, get_or-set_same, get_or-set_other, length-set, get_or_append_left}
 use Rattle.std.proofs.Math.Seq.{get_or-append_seam}
 use Rattle.std.proofs.lemmas.List.{length-append, length-replicate}
 use Rattle.std.specs.declared.vec.Vec.{Vec}
 use Rattle.version_graph.specs.Graph.{is_state}
-use Rattle.maxsum_messages.specs.Rows.{rows_of}
-use Rattle.maxsum_messages.specs.Field.{field}
+use Rattle.version_graph.specs.Stored.{rows_of}
 
 -- the place i of the row p, or d where there is none
 abbrev pub cell : {W : Type 0} → W → List (List W) → ℕ → ℕ → W

@@ -1,5 +1,5 @@
 -- Messages that are the same at each state.
-use Rattle.std.proofs.Common.{◌≡◌, ℕ, ◌∙◌, false, true}
+use Rattle.std.proofs.Common.{◌≡◌, ℕ, ◌∙◌}
 use Rattle.std.specs.declared.cmp.Ordering.{Ordering}
 use Rattle.version_graph.specs.Graph.{Graph}
 use Rattle.version_graph.specs.Family.{Family}

@@ -1,5 +1,5 @@
 -- How the messages are kept, and what is kept with them: for each state the sum of the messages to it.
-use Rattle.std.specs.Prelude.{◌≡◌, ◌≢◌, ℕ, ◌+◌, ◌<◌, ◌≤◌, List, [], length, slice_index, slice_index_or, Option, None, Some}
+use Rattle.std.specs.Prelude.{◌≡◌, ◌≢◌, ℕ, ◌<◌, ◌≤◌, List, [], length, slice_index, slice_index_or, Option, None, Some}
 use Rattle.std.specs.List.Sorted.{IsStrictlyIncreasing}
 use Rattle.version_graph.specs.Domain.{Rows, row}
 use Rattle.maxsum_messages.specs.Field.{field}

@@ -1,4 +1,3 @@
-pub mod Rows
 pub mod Field
 pub mod Post
 pub mod Greatest

@@ -1,6 +1,6 @@
 -- The messages between neighbours: what each package hears from each of its neighbours about each of its states.
 -- (own rule, after Pkg's resolver)
-use Rattle.std.specs.Prelude.{◌≡◌, ℕ, ◌<◌, List, [], ◌∷◌, length, slice_index, slice_index_or, ◌==◌, if◌then◌else◌}
+use Rattle.std.specs.Prelude.{◌≡◌, ℕ, ◌<◌, List, [], ◌∷◌, slice_index_or, ◌==◌, if◌then◌else◌}
 use Rattle.version_graph.specs.Graph.{Graph, packages, are_neighbours, IsListOf}
 
 pub record Post (W : Type 0) : Type 0 where

@@ -38,3 +38,9 @@ pub record IsSplit {W : Type 0} (cmp : W → W → Ordering) (value : ℕ → W)
   pub bound : high ≤ length xs
   pub before : (k : ℕ) → k < low → IsBefore cmp value (slice_index xs k) i
   pub after : (k : ℕ) → high ≤ k → k < length xs → IsBefore cmp value i (slice_index xs k)
+
+-- the greater of the two, where the second is wanted; the first one on a tie
+abbrev pub raised : {W : Type 0} → (W → W → Ordering) → Option W → W → Bool → Option W
+raised cmp best weight false = best
+raised cmp None weight true = Some weight
+raised cmp (Some other) weight true = Some (if is_gt (cmp weight other) then weight else other)

@@ -1,7 +1,7 @@
 //! The parts of messages, as they are first made.
 ghost use Rattle.std.specs.Prelude.{◌≡◌, ◌<◌, ◌≤◌, [], ℕ, length, slice_index, slice_index_or, IfOk};
 ghost use Rattle.version_graph.specs.Graph.{packages, are_neighbours, IsListOf};
-ghost use Rattle.maxsum_messages.specs.Rows.{rows_of};
+ghost use Rattle.version_graph.specs.Stored.{rows_of};
 ghost use Rattle.maxsum_messages.specs.Field.{field};
 ghost use Rattle.maxsum_messages.specs.Kept.{AreSenders, AreShaped};
 

@@ -3,9 +3,9 @@ ghost use Rattle.std.specs.Prelude.{◌≡◌, ◌≢◌, ◌<◌, ◌≤◌, �
 ghost use Rattle.std.specs.Ordering.{is_gt, is_lt};
 ghost use Rattle.version_graph.specs.Domain.{has, row};
 ghost use Rattle.maxsum_messages.specs.Belief.{belief};
-ghost use Rattle.maxsum_messages.specs.Greatest.{IsGreatest, raised};
+ghost use Rattle.maxsum_messages.specs.Greatest.{IsGreatest};
 ghost use Rattle.maxsum_messages.specs.Choice.{IsSingle, IsChosen, IsFalling, AreInOrder, standing};
-ghost use Rattle.maxsum_messages.specs.Searched.{is_skipped, leading, package_of, HasLead, AreInOrderBelow, IsSplit};
+ghost use Rattle.maxsum_messages.specs.Searched.{raised, is_skipped, leading, package_of, HasLead, AreInOrderBelow, IsSplit};
 ghost use Rattle.maxsum_messages.specs.Kept.{AreAligned};
 
 use crate::fields::Fields;

@@ -4,7 +4,8 @@ ghost use Rattle.version_graph.specs.Graph.{packages, states, is_forbidden};
 ghost use Rattle.version_graph.specs.Domain.{has, IsFor, row};
 ghost use Rattle.std.specs.Prelude.{if◌then◌else◌};
 ghost use Rattle.std.specs.Ordering.{is_gt};
-ghost use Rattle.maxsum_messages.specs.Greatest.{IsGreatest, raised};
+ghost use Rattle.maxsum_messages.specs.Greatest.{IsGreatest};
+ghost use Rattle.maxsum_messages.specs.Searched.{raised};
 
 use lex_weights::Weight;
 use version_graph::{Domains, Instance};

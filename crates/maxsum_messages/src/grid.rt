@@ -14,7 +14,7 @@ pub(crate) struct Grid<W> {
 
 impl<W> Model for Grid<W> {
     ghost use Rattle.std.specs.Prelude.{List};
-    ghost use Rattle.maxsum_messages.specs.Rows.{rows_of};
+    ghost use Rattle.version_graph.specs.Stored.{rows_of};
 
     ghost Value = { List (List W) };
 

@@ -27,7 +27,7 @@ pub(crate) struct Inbox<W: Weight> {
 
 impl<W: Weight> Model for Inbox<W> {
     ghost use Rattle.std.specs.Prelude.{◌^◌};
-    ghost use Rattle.maxsum_messages.specs.Rows.{rows_of};
+    ghost use Rattle.version_graph.specs.Stored.{rows_of};
     ghost use Rattle.maxsum_messages.specs.Post.{Post};
     ghost use Rattle.maxsum_messages.specs.Kept.{IsKept};
 

@@ -1,5 +1,5 @@
 //! The messages: what neighbours say to each other, round by round, and what is believed then.
-ghost use Rattle.std.specs.Prelude.{◌≡◌, ◌<◌, ◌^◌, ℕ, [], length, slice_index, slice_index_or, IfOk, IfSome, MatchOption, ◌≤◌};
+ghost use Rattle.std.specs.Prelude.{◌≡◌, ◌<◌, ◌^◌, ℕ, [], length, slice_index, slice_index_or, IfOk, MatchOption, ◌≤◌};
 ghost use Rattle.version_graph.specs.Graph.{Graph};
 ghost use Rattle.version_graph.specs.Domain.{has, IsFor};
 ghost use Rattle.version_graph.specs.Family.{IsStable, IsFilled};
@@ -105,13 +105,13 @@ impl<W: Weight> Messages<W> {
 
     /// The package whose best belief is the furthest above its second best, the least number on a tie. The
     /// states of its domain are left in the order in which they are tried: by belief, the greatest first,
-    /// and of equal beliefs the greater number first. None comes exactly where no domain has two states. It
-    /// takes no memory.
+    /// and of equal beliefs the greater number first. None comes exactly where no domain has two states,
+    /// and then the order is as before. It takes no memory.
     pub fn choose(&self, fields: &Fields<W>, domains: &Domains, order: &mut Order) -> Option<u32>
         requires aligned { AreAligned self.now.sizes fields.now domains.now }
         requires room { (p : ℕ) → p < length self.now.sizes → slice_index self.now.sizes p ≤ order.old.room }
         ensures answer { MatchOption result ((p : ℕ) → p < length self.now.sizes → IsSingle (has domains.now p)) (IsChosen W.cmp W.minus (length self.now.sizes) (has domains.now) (belief W.none W.plus fields.now self.now)) }
-        ensures order { IfSome result (λ p. AreInOrder W.cmp (has domains.now p) (belief W.none W.plus fields.now self.now p) order.new.states) }
+        ensures order { MatchOption result (order.new.states ≡ order.old.states) (λ p. AreInOrder W.cmp (has domains.now p) (belief W.none W.plus fields.now self.now p) order.new.states) }
         ensures room { order.old.room ≤ order.new.room }
     {
         match most_decisive(&self.inbox, fields, domains) {

@@ -1,5 +1,5 @@
 //! The order in which the states of a package are tried.
-ghost use Rattle.std.specs.Prelude.{◌≡◌, IfOk};
+ghost use Rattle.std.specs.Prelude.{◌≡◌, [], IfOk};
 ghost use Rattle.std.specs.Ordering.{is_lt, ordering_then, nat_cmp};
 ghost use Rattle.maxsum_messages.specs.Ranking.{IsOrderFor};
 
@@ -26,7 +26,8 @@ impl Model for Order {
 impl Order {
     /// No states, with room for those of any package of the instance. The one error is want of memory.
     pub fn make(alloc: Global, instance: &Instance) -> Result<Self, AllocError>
-        ensures { IfOk result (λ order. IsOrderFor instance.now order) }
+        ensures none { IfOk result (λ order. order.states ≡ []) }
+        ensures room { IfOk result (λ order. IsOrderFor instance.now order) }
     {
         let states = Vec::with_capacity(alloc, instance.state_count() as usize)?;
         Ok(Order { states })

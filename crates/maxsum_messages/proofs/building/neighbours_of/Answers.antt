@@ -1,4 +1,4 @@
-use Rattle.std.proofs.Common.{◌≡◌, ◌∙◌, ◌≤◌, ◌<◌, ℕ, subst, sym, ap, arith, length, get_or}
+use Rattle.std.proofs.Common.{subst, sym, arith}
 use Rattle.version_graph.specs.Graph.{packages, are_neighbours, IsListOf}
 use Rattle.maxsum_messages.specs.Kept.{AreSenders}
 use Rattle.maxsum_messages.proofs.Sums.{rising-few}

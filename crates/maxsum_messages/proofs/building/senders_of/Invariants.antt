@@ -1,6 +1,6 @@
 use Rattle.std.proofs.Common.{ℕ, ◌≡◌, ◌<◌, get_or, length, []}
 use Rattle.version_graph.specs.Graph.{packages, are_neighbours, IsListOf}
-use Rattle.maxsum_messages.specs.Rows.{rows_of}
+use Rattle.version_graph.specs.Stored.{rows_of}
 use Rattle.maxsum_messages.specs.Kept.{AreSenders}
 use Rattle.maxsum_messages.proofs.building.senders_of.Given as goal
 

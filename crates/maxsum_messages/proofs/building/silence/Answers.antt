@@ -1,7 +1,7 @@
-use Rattle.std.proofs.Common.{◌≡◌, ◌∙◌, ◌<◌, ◌+◌, ◌++◌, ◌∷◌, [], ℕ, List, subst, sym, ap, arith, length, get_or}
+use Rattle.std.proofs.Common.{◌≡◌, ◌∙◌, ◌<◌, ◌+◌, ◌∷◌, [], List, subst, sym, ap, arith, length, get_or}
 use Rattle.std.proofs.lemmas.List.{length-append, length-map}
 use Rattle.std.specs.declared.vec.Vec.{Vec}
-use Rattle.maxsum_messages.specs.Rows.{rows_of}
+use Rattle.version_graph.specs.Stored.{rows_of}
 use Rattle.maxsum_messages.proofs.Rows.{pushed-all, pushed-each, cell, row-read}
 use Rattle.maxsum_messages.proofs.building.silence.Goals as goal
 

@@ -1,5 +1,5 @@
 use Rattle.std.proofs.Common.{ℕ, ◌≡◌, ◌<◌, get_or, length, []}
-use Rattle.maxsum_messages.specs.Rows.{rows_of}
+use Rattle.version_graph.specs.Stored.{rows_of}
 use Rattle.maxsum_messages.proofs.Rows.{cell}
 use Rattle.maxsum_messages.proofs.building.silence.Given as goal
 

@@ -1,9 +1,8 @@
-use Rattle.std.proofs.Common.{◌≡◌, ◌∙◌, ◌<◌, ◌≤◌, ◌&&◌, not, ℕ, ap, subst, sym, arith}
+use Rattle.std.proofs.Common.{◌∙◌, ◌&&◌, not, ℕ, ap, arith}
 use Rattle.std.specs.Cmp.{on_total}
 use Rattle.version_graph.specs.Domain.{has}
 use Rattle.maxsum_messages.specs.Belief.{belief}
-use Rattle.maxsum_messages.specs.Greatest.{raised}
-use Rattle.maxsum_messages.specs.Searched.{is_skipped}
+use Rattle.maxsum_messages.specs.Searched.{raised, is_skipped}
 use Rattle.maxsum_messages.proofs.Best.{best-more, best-known, best-found, in-range, both-first}
 use Rattle.maxsum_messages.proofs.choosing.best_but.Goals as goal
 

@@ -1,4 +1,4 @@
-use Rattle.std.proofs.Common.{◌&&◌, not, ℕ}
+use Rattle.std.proofs.Common.{◌&&◌, not}
 use Rattle.version_graph.specs.Domain.{has}
 use Rattle.maxsum_messages.specs.Belief.{belief}
 use Rattle.maxsum_messages.specs.Searched.{is_skipped}

@@ -1,4 +1,4 @@
-use Rattle.std.proofs.Common.{◌≡◌, ◌∙◌, ◌<◌, ◌≤◌, ℕ, ap, subst, sym, arith, length, get_or}
+use Rattle.std.proofs.Common.{ap, arith, length}
 use Rattle.version_graph.specs.Domain.{has}
 use Rattle.maxsum_messages.specs.Belief.{belief}
 use Rattle.maxsum_messages.proofs.Best.{in-range}

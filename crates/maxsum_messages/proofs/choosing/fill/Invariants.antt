@@ -1,4 +1,4 @@
-use Rattle.std.proofs.Common.{◌≡◌, ◌≤◌, length, get_or, vec_capacity}
+use Rattle.std.proofs.Common.{◌≤◌, length, vec_capacity}
 use Rattle.version_graph.specs.Domain.{has}
 use Rattle.maxsum_messages.specs.Belief.{belief}
 use Rattle.maxsum_messages.specs.Searched.{AreInOrderBelow}

@@ -1,4 +1,4 @@
-use Rattle.std.proofs.Common.{◌≡◌, ◌≢◌, ◌∙◌, ◌<◌, ◌≤◌, ℕ, ap, subst, sym, arith, length, get_or}
+use Rattle.std.proofs.Common.{◌∙◌, ◌<◌, sym, arith, length}
 use Rattle.maxsum_messages.specs.Belief.{belief}
 use Rattle.maxsum_messages.proofs.InOrder.{before-all, after-all}
 use Rattle.maxsum_messages.proofs.choosing.halve.Goals as goal

@@ -1,5 +1,4 @@
-use Rattle.std.proofs.Common.{◌≡◌, ◌≤◌, ◌∙◌, ◌+◌, ℕ, List, length, ap, subst, sym, arith}
-use Rattle.std.specs.List.{insert}
+use Rattle.std.proofs.Common.{◌+◌, subst, sym}
 use Rattle.version_graph.specs.Domain.{has}
 use Rattle.maxsum_messages.specs.Belief.{belief}
 use Rattle.maxsum_messages.specs.Searched.{AreInOrderBelow, IsSplit}

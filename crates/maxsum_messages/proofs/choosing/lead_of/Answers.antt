@@ -1,5 +1,4 @@
-use Rattle.std.proofs.Common.{◌≡◌, ◌<◌, ◌&&◌, not, subst, sym, arith}
-use Rattle.version_graph.specs.Domain.{has}
+use Rattle.std.proofs.Common.{arith}
 use Rattle.maxsum_messages.proofs.Best.{in-range, both-first}
 use Rattle.maxsum_messages.proofs.choosing.lead_of.Goals as goal
 

@@ -1,4 +1,4 @@
-use Rattle.std.proofs.Common.{◌≡◌, ◌∙◌, ◌<◌, ◌+◌, ℕ, ap, subst, sym, arith, length, MatchOption}
+use Rattle.std.proofs.Common.{◌<◌, ◌+◌, ℕ, subst, sym, arith, length, MatchOption}
 use Rattle.version_graph.specs.Domain.{has}
 use Rattle.maxsum_messages.specs.Belief.{belief}
 use Rattle.maxsum_messages.specs.Choice.{IsSingle, IsChosen}

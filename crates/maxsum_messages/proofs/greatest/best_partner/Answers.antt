@@ -1,8 +1,8 @@
-use Rattle.std.proofs.Common.{◌≡◌, ◌∙◌, ◌<◌, ◌&&◌, not, ℕ, Bool, length, get_or, ap, subst, sym, arith, Some, None}
+use Rattle.std.proofs.Common.{◌∙◌, ◌<◌, ◌&&◌, not, ℕ, length, get_or, ap, subst, arith}
 use Rattle.std.proofs.lemmas.List.{get_or_read}
 use Rattle.version_graph.specs.Graph.{is_forbidden}
-use Rattle.version_graph.specs.Domain.{has, row}
-use Rattle.maxsum_messages.specs.Greatest.{raised}
+use Rattle.version_graph.specs.Domain.{has}
+use Rattle.maxsum_messages.specs.Searched.{raised}
 use Rattle.maxsum_messages.proofs.Best.{IsBestBelow, best-more, best-end, in-range, both-first}
 use Rattle.maxsum_messages.proofs.greatest.best_partner.Goals as goal
 

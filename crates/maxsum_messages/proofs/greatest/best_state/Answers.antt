@@ -1,7 +1,7 @@
-use Rattle.std.proofs.Common.{◌≡◌, ◌∙◌, ◌<◌, ℕ, Bool, length, get_or, ap, subst, sym, arith, Some, None}
+use Rattle.std.proofs.Common.{◌∙◌, ◌<◌, ℕ, length, get_or, ap, subst, arith}
 use Rattle.std.proofs.lemmas.List.{get_or_read}
-use Rattle.version_graph.specs.Domain.{has, row}
-use Rattle.maxsum_messages.specs.Greatest.{raised}
+use Rattle.version_graph.specs.Domain.{has}
+use Rattle.maxsum_messages.specs.Searched.{raised}
 use Rattle.maxsum_messages.proofs.Best.{IsBestBelow, best-more, best-end, in-range}
 use Rattle.maxsum_messages.proofs.greatest.best_state.Goals as goal
 

@@ -1,4 +1,4 @@
-use Rattle.std.proofs.Common.{◌≡◌, ◌≢◌, ◌<◌, ℕ, [], get_or, length}
+use Rattle.std.proofs.Common.{◌≡◌, ◌<◌, ℕ, [], get_or, length}
 use Rattle.maxsum_messages.specs.Post.{heard}
 use Rattle.maxsum_messages.proofs.Rows.{cell}
 use Rattle.maxsum_messages.proofs.inbox.add_up.Given as goal

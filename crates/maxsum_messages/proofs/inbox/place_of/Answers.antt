@@ -1,4 +1,4 @@
-use Rattle.std.proofs.Common.{◌≡◌, ◌<◌, ◌≤◌, ℕ, ◌⊎◌, inl, inr, length, get_or, ap, arith, Ok, Err}
+use Rattle.std.proofs.Common.{inl, inr, arith, Err}
 use Rattle.std.proofs.lemmas.Bool.{cases_lt}
 use Rattle.std.proofs.lemmas.List.Sorted.{searched}
 use Rattle.maxsum_messages.proofs.Sums.{rising-ordered}

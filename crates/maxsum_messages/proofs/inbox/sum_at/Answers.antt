@@ -1,7 +1,5 @@
-use Rattle.std.proofs.Common.{◌≡◌, ◌∙◌, ◌^◌, ◌*◌, ◌+◌, ◌-◌, ◌<◌, ◌≤◌, ℕ, [], length, get_or, drop, ap, subst, sym, arith, length-drop}
+use Rattle.std.proofs.Common.{◌^◌, ◌*◌, ◌+◌, ◌-◌, ◌≤◌, [], length, get_or, drop, ap, subst, sym, arith, length-drop}
 use Rattle.std.proofs.lemmas.List.{get_or-drop}
-use Rattle.maxsum_messages.specs.Post.{heard}
-use Rattle.maxsum_messages.proofs.Rows.{cell}
 use Rattle.maxsum_messages.proofs.Bounds.{heard-small}
 use Rattle.maxsum_messages.proofs.inbox.sum_at.Goals as goal
 

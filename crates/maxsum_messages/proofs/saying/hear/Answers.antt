@@ -1,6 +1,5 @@
-use Rattle.std.proofs.Common.{◌≡◌, ◌≢◌, ◌∙◌, ◌^◌, ◌<◌, ◌+◌, ◌≤◌, ℕ, [], List, length, get_or, ap, subst, sym, arith, below_more, ◌⊎◌, inl, inr}
+use Rattle.std.proofs.Common.{◌≡◌, ◌∙◌, ◌^◌, ℕ, get_or, subst, sym, arith, below_more, inl, inr}
 use Rattle.std.proofs.lemmas.Bool.{cases_lt}
-use Rattle.version_graph.specs.Graph.{states}
 use Rattle.version_graph.specs.Domain.{has}
 use Rattle.maxsum_messages.specs.Post.{senders_of}
 use Rattle.maxsum_messages.specs.Round.{weight_for, IsMessage}

@@ -1,5 +1,4 @@
-use Rattle.std.proofs.Common.{◌≡◌, ◌<◌, ◌^◌, ℕ, [], length, get_or}
-use Rattle.version_graph.specs.Graph.{states}
+use Rattle.std.proofs.Common.{◌<◌, ◌^◌, ℕ, [], length, get_or}
 use Rattle.version_graph.specs.Domain.{has}
 use Rattle.maxsum_messages.specs.Post.{senders_of}
 use Rattle.maxsum_messages.specs.Round.{weight_for, IsMessage}

@@ -1,4 +1,4 @@
-use Rattle.std.proofs.Common.{◌≡◌, ◌≢◌, ◌∙◌, ◌^◌, ◌<◌, ◌&&◌, not, true, false, ℕ, length, get_or, ap, subst, sym, arith, refl}
+use Rattle.std.proofs.Common.{◌≡◌, ◌∙◌, ◌^◌, ◌&&◌, not, true, ap, subst, sym, arith}
 use Rattle.version_graph.specs.Graph.{is_forbidden}
 use Rattle.version_graph.specs.Domain.{has}
 use Rattle.maxsum_messages.proofs.Best.{in-range, both-first, forbidden-turned}

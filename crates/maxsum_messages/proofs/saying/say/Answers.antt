@@ -1,10 +1,10 @@
-use Rattle.std.proofs.Common.{◌≡◌, ◌≢◌, ◌∙◌, ◌^◌, ◌<◌, ◌≤◌, ◌&&◌, not, true, false, cond, ℕ, [], List, length, get_or, ap, subst, sym, arith, refl, ◌⊎◌, inl, inr}
+use Rattle.std.proofs.Common.{◌≡◌, ◌∙◌, ◌^◌, ◌<◌, ◌&&◌, not, cond, ℕ, [], length, get_or, ap, subst, sym, arith, inl, inr}
 use Rattle.std.proofs.lemmas.Bool.{cases_lt}
 use Rattle.std.proofs.lemmas.List.{get_or_past}
 use Rattle.version_graph.specs.Graph.{is_forbidden, states}
 use Rattle.version_graph.specs.Domain.{has}
 use Rattle.maxsum_messages.specs.Greatest.{IsGreatest}
-use Rattle.maxsum_messages.specs.Round.{weight_for, IsMessage}
+use Rattle.maxsum_messages.specs.Round.{weight_for}
 use Rattle.maxsum_messages.proofs.Best.{in-range, both-first, greatest-same}
 use Rattle.maxsum_messages.proofs.Rows.{cell}
 use Rattle.maxsum_messages.proofs.saying.say.Goals as goal

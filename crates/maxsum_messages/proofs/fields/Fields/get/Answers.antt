@@ -1,5 +1,4 @@
 use Rattle.std.proofs.Common.{◌∙◌, ◌^◌, ap, subst, sym}
-use Rattle.maxsum_messages.specs.Field.{field}
 use Rattle.maxsum_messages.proofs.Rows.{cell}
 use Rattle.maxsum_messages.proofs.fields.Fields.get.Goals as goal
 

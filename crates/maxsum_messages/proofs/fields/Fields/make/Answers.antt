@@ -1,7 +1,6 @@
-use Rattle.std.proofs.Common.{◌≡◌, ◌^◌, ◌<◌, ◌+◌, ◌∙◌, ℕ, ap, subst, sym, arith, refl, [], ◌∷◌, ◌++◌, length, get_or, replicate}
-use Rattle.std.proofs.lemmas.List.{get_or_past, length-append}
+use Rattle.std.proofs.Common.{◌≡◌, ◌^◌, ◌+◌, ◌∙◌, ap, subst, sym, arith, [], ◌∷◌, length, get_or, replicate}
+use Rattle.std.proofs.lemmas.List.{length-append}
 use Rattle.version_graph.specs.Graph.{states, packages}
-use Rattle.maxsum_messages.specs.Field.{field, AreWithin}
 use Rattle.maxsum_messages.proofs.Rows.{cell, zero-pushed, wide-pushed, nothing}
 use Rattle.maxsum_messages.proofs.fields.Fields.make.Goals as goal
 

@@ -1,7 +1,6 @@
 use Rattle.std.proofs.Common.{◌≡◌, ◌^◌, ◌<◌, ◌∙◌, ℕ, ap, subst, sym, cond, Bool, true, false, arith, length, get_or, []}
 use Rattle.version_graph.specs.Graph.{is_state}
-use Rattle.maxsum_messages.specs.Field.{field, AreWithin}
-use Rattle.maxsum_messages.proofs.Rows.{cell, cell-written, written}
+use Rattle.maxsum_messages.proofs.Rows.{cell, cell-written}
 use Rattle.maxsum_messages.proofs.fields.Fields.set.Goals as goal
 use Rattle.maxsum_messages.proofs.fields.Fields.set.Goals.{After-set}
 use Rattle.maxsum_messages.proofs.fields.Fields.set.Given.{Over}

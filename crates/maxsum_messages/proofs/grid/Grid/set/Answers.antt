@@ -1,7 +1,7 @@
-use Rattle.std.proofs.Common.{◌∙◌, ◌<◌, ◌≡◌, List, length, get_or, set, ap, sym, arith, []}
+use Rattle.std.proofs.Common.{◌∙◌, length, set, ap, sym, arith}
 use Rattle.std.proofs.lemmas.List.{map-set}
 use Rattle.std.specs.declared.vec.Vec.{Vec}
-use Rattle.maxsum_messages.specs.Rows.{rows_of}
+use Rattle.version_graph.specs.Stored.{rows_of}
 use Rattle.maxsum_messages.proofs.Rows.{row-read, written}
 use Rattle.maxsum_messages.proofs.grid.Grid.set.Goals as goal
 

@@ -1,8 +1,7 @@
-use Rattle.std.proofs.Common.{◌≡◌, ◌∙◌, ◌^◌, ◌*◌, ◌+◌, ◌<◌, ◌≤◌, ℕ, [], length, get_or, ap, subst, sym, arith}
+use Rattle.std.proofs.Common.{◌≡◌, ◌∙◌, ◌^◌, ◌*◌, ap, subst, sym, arith}
 use Rattle.maxsum_messages.specs.Field.{field}
-use Rattle.maxsum_messages.specs.Post.{Post, heard, said_to}
+use Rattle.maxsum_messages.specs.Post.{heard, said_to}
 use Rattle.maxsum_messages.specs.Kept.{IsKept}
-use Rattle.maxsum_messages.proofs.Rows.{cell}
 use Rattle.maxsum_messages.proofs.Bounds.{kept-heard, field-and-sum}
 use Rattle.maxsum_messages.proofs.inbox.Inbox.belief.Given.{Over}
 use Rattle.maxsum_messages.proofs.inbox.Inbox.belief.Goals as goal

@@ -1,10 +1,9 @@
-use Rattle.std.proofs.Common.{◌≡◌, ◌∙◌, ◌^◌, ◌<◌, ◌≤◌, ℕ, [], length, get_or, ap, subst, sym, arith}
+use Rattle.std.proofs.Common.{◌≡◌, ◌∙◌, ◌^◌, [], length, get_or, ap, subst, sym, arith}
 use Rattle.std.proofs.lemmas.List.{length-map}
 use Rattle.std.specs.declared.vec.Vec.{Vec}
 use Rattle.version_graph.specs.Graph.{packages}
-use Rattle.maxsum_messages.specs.Rows.{rows_of}
-use Rattle.maxsum_messages.specs.Kept.{IsKept, AreShaped, AreSenders}
-use Rattle.maxsum_messages.proofs.Rows.{cell}
+use Rattle.version_graph.specs.Stored.{rows_of}
+use Rattle.maxsum_messages.specs.Kept.{AreShaped, AreSenders}
 use Rattle.maxsum_messages.proofs.Sums.{heard-silent}
 use Rattle.maxsum_messages.proofs.inbox.Inbox.make.Goals as goal
 

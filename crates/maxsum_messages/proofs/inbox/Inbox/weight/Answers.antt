@@ -1,7 +1,7 @@
-use Rattle.std.proofs.Common.{◌≡◌, ◌∙◌, ◌^◌, ◌*◌, ◌+◌, ◌<◌, ◌≤◌, ℕ, [], length, get_or, ap, subst, sym, arith, Some, None}
+use Rattle.std.proofs.Common.{◌≡◌, ◌∙◌, ◌^◌, ◌+◌, ◌<◌, [], length, ap, subst, sym, arith}
 use Rattle.std.proofs.lemmas.List.{get_or_read}
 use Rattle.maxsum_messages.specs.Field.{field}
-use Rattle.maxsum_messages.specs.Post.{Post, heard, heard_but, said_to, senders_of}
+use Rattle.maxsum_messages.specs.Post.{Post, heard, said_to, senders_of}
 use Rattle.maxsum_messages.specs.Round.{weight_for}
 use Rattle.maxsum_messages.specs.Kept.{IsKept, IsPlaceOf}
 use Rattle.maxsum_messages.proofs.Rows.{cell}

@@ -1,6 +1,6 @@
-use Rattle.std.proofs.Common.{◌≡◌, ◌∙◌, ◌<◌, ℕ, [], List, length, get_or, ap, subst, sym}
-use Rattle.version_graph.specs.Graph.{Graph, are_neighbours, IsListOf}
-use Rattle.maxsum_messages.specs.Post.{Post, IsPostFor}
+use Rattle.std.proofs.Common.{◌∙◌, [], get_or, ap, subst, sym}
+use Rattle.version_graph.specs.Graph.{are_neighbours, IsListOf}
+use Rattle.maxsum_messages.specs.Post.{Post}
 use Rattle.maxsum_messages.proofs.messages.Messages.reset.Goals as goal
 
 pub returns-clause-made : goal.returns-clause-made

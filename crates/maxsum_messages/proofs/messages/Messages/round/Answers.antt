@@ -1,8 +1,8 @@
 use Rattle.std.proofs.Common.{◌≡◌, ◌∙◌, ◌<◌, ℕ, [], List, length, get_or, ap, subst, sym}
 use Rattle.version_graph.specs.Graph.{Graph, are_neighbours, IsListOf}
 use Rattle.version_graph.specs.Domain.{has}
-use Rattle.maxsum_messages.specs.Post.{Post, senders_of, SameSenders, IsPostFor}
-use Rattle.maxsum_messages.specs.Round.{weight_for, IsMessage, IsRound}
+use Rattle.maxsum_messages.specs.Post.{Post, senders_of, IsPostFor}
+use Rattle.maxsum_messages.specs.Round.{weight_for, IsMessage}
 use Rattle.maxsum_messages.proofs.Rows.{cell}
 use Rattle.maxsum_messages.proofs.messages.Messages.round.Goals as goal
 
