@@ -6,7 +6,8 @@
 //! holds, and that a rename takes the place of the target as a whole. Other programs may change files between
 //! two calls, so the store tells no files, and no clause of this file speaks of what they hold.
 //!
-//! Links are followed. A special file counts as a file, and a name in a folder that is not UTF-8 is passed over.
+//! Links are followed. What is neither a file nor a folder is a failed read, and a name in a folder that is not
+//! UTF-8 is passed over.
 ghost use Rattle.std.specs.Prelude.{◌≡◌, ◌<◌, ◌≤◌, IfOk, IfSome, OnOk, length, vec_len};
 ghost use Rattle.std.specs.Io.KnownBytes.{IsAtEnd};
 ghost use Rattle.jlpkg.specs.Reading.{Follows};
@@ -63,8 +64,9 @@ impl<R: Files + AllocGlobal + Clone + Drop> Store for HostStore<R> {
 
     ghost write_faults = { λ s. s.write_faults };
 
-    /// The bytes of a file, at most 64 MiB in at most 2^20 turns: a longer file is Failed, and so is every
-    /// error of the machine but those that say that nothing is there, a folder is there, or memory is wanting.
+    /// The bytes of a file, at most 64 MiB in at most 2^20 turns: a longer file is Failed, so is what is neither
+    /// a file nor a folder, and so is every error of the machine but those that say that nothing is there, a
+    /// folder is there, or memory is wanting.
     fn read(&mut self, alloc: Global, path: &NormPath) -> ReadAnswer {
         let answer = read_at(&self.host, alloc, path.as_str());
         if let ReadAnswer::Failed = answer {
@@ -73,7 +75,7 @@ impl<R: Files + AllocGlobal + Clone + Drop> Store for HostStore<R> {
         answer
     }
 
-    /// What stands at a path. A path below a file is Missing.
+    /// What stands at a path. A path below a file is Missing; a pipe, a device or a socket is Failed.
     fn kind(&mut self, _alloc: Global, path: &NormPath) -> KindAnswer {
         let answer = kind_at(&self.host, path.as_str());
         if let KindAnswer::Failed = answer {
@@ -91,10 +93,10 @@ impl<R: Files + AllocGlobal + Clone + Drop> Store for HostStore<R> {
         answer
     }
 
-    /// Makes missing parent folders, writes a file beside the target and renames it to the target, so that the
-    /// target holds its old bytes or the new ones whole. A target that is a folder, and one below a file, is
-    /// Failed: Blocked is for stores that tell their files. Where it fails, the file beside is taken away, and
-    /// so are the folders that it made.
+    /// Makes missing parent folders, writes a file beside the target, forces it to the disk and renames it to
+    /// the target, so that the target holds its old bytes or the new ones whole. A target that is a folder, and
+    /// one below a file, is Failed: Blocked is for stores that tell their files. Where it fails, the file beside
+    /// is taken away, and so are the folders that it made.
     fn replace(&mut self, alloc: Global, path: &NormPath, bytes: &[u8]) -> WriteAnswer {
         match put_in_place(&self.host, alloc, path.as_str(), bytes) {
             Ok(()) => WriteAnswer::Done,
@@ -127,7 +129,18 @@ fn refusal_of(error: &io::Error) -> Refusal {
     }
 }
 
+/// The kind is asked first: opening a pipe would wait for its other end, and a device may never end.
 fn read_at<R: Files>(host: &R, alloc: Global, path: &str) -> ReadAnswer {
+    match kind_at(host, path) {
+        KindAnswer::File => read_file(host, alloc, path),
+        KindAnswer::Folder => ReadAnswer::Folder,
+        KindAnswer::Missing => ReadAnswer::Missing,
+        KindAnswer::Failed => ReadAnswer::Failed,
+        KindAnswer::Memory => ReadAnswer::Memory,
+    }
+}
+
+fn read_file<R: Files>(host: &R, alloc: Global, path: &str) -> ReadAnswer {
     match contents(host, alloc, path) {
         Ok(bytes) => ReadAnswer::Bytes(Bytes::of_vec(bytes)),
         Err(error) => match refusal_of(&error) {
@@ -187,8 +200,10 @@ fn kind_at<R: Files>(host: &R, path: &str) -> KindAnswer {
         Ok(found) => {
             if found.is_dir() {
                 KindAnswer::Folder
-            } else {
+            } else if found.is_file() {
                 KindAnswer::File
+            } else {
+                KindAnswer::Failed
             }
         }
         Err(error) => match refusal_of(&error) {
@@ -295,15 +310,27 @@ fn rename_new<R: Files>(
 ) -> io::Result<()> {
     fs::create_dir_all(host, folder)?;
     write_new(host, beside, bytes)?;
-    fs::rename(host, beside, path)
+    fs::rename(host, beside, path)?;
+    force_folder(host, folder);
+    Ok(())
 }
 
-/// Writes a file that was not there. One that a run left there which was cut off is taken away before.
+/// Forces a folder's names to the disk. The new file is in its place by then, so an error here changes no answer.
+fn force_folder<R: Files>(host: &R, folder: &str) {
+    let path = if folder.is_empty() { "/" } else { folder };
+    if let Ok(opened) = fs::open(host, path) {
+        let _ = opened.sync_all();
+    }
+}
+
+/// Writes a file that was not there, and forces it to the disk. One that a run left there which was cut off is
+/// taken away before.
 fn write_new<R: Files>(host: &R, path: &str, bytes: &[u8]) -> io::Result<()> {
     let _ = fs::remove_file(host, path);
     let mut file = OpenOptions::new()
         .write(true)
         .create_new(true)
         .open(host, path)?;
-    file.write_all(bytes)
+    file.write_all(bytes)?;
+    file.sync_all()
 }

@@ -168,6 +168,9 @@ fn the_store_answers_by_the_folder_and_counts_what_failed(rt: HostRuntime) -> Re
         (Call::Replace, "new/deep", "Failed", 4, 2),
         (Call::Replace, "new/b/below", "Failed", 4, 3),
         (Call::List, "new", "B;a-b;b;deep;é;", 4, 3),
+        (Call::Read, "/dev/zero", "Failed", 5, 3),
+        (Call::Kind, "/dev/null", "Failed", 6, 3),
+        (Call::List, "/dev/null", "Failed", 7, 3),
     ];
     for (call, path, said, reads, writes) in rows.iter() {
         let found = ground.ask(call, path)?;
