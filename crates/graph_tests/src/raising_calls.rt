@@ -19,6 +19,25 @@ fn root_and_two(alloc: Global) -> Result<Instance, GraphFault> {
     )
 }
 
+// two roots with two versions each, which need the third package: the later version of the first takes its later one
+// alone, that of the second its earlier one alone
+fn two_that_share(alloc: Global) -> Result<Instance, GraphFault> {
+    let pairs = [
+        (0, 0, 2, 2),
+        (0, 1, 2, 2),
+        (1, 0, 2, 2),
+        (1, 1, 2, 2),
+        (0, 1, 2, 0),
+        (1, 1, 2, 1),
+    ];
+    instance_of(alloc, &[3, 3, 3], &[(0, 2), (1, 2)], &pairs)
+}
+
+// a root that doesn't need the second package, and refuses its later version
+fn one_that_is_weak(alloc: Global) -> Result<Instance, GraphFault> {
+    instance_of(alloc, &[2, 3], &[(0, 1)], &[(0, 0, 1, 1)])
+}
+
 // whether that state is one that there is, and isn't forbidden alone
 fn is_offered(instance: &Instance, p: u32, i: u32) -> bool
     requires { p < packages instance.now }
@@ -106,5 +125,23 @@ fn solutions_are_trimmed_and_raised(rt: HostRuntime) -> Result<(), Fail> {
             (found, want) => assert_eq!(rt; found.is_some(), want.is_some()),
         }
     }
+    Ok(())
+}
+
+// whether these states are a solution, and become those
+fn becomes(alloc: Global, instance: &Instance, chosen: &[u32], want: &[u32]) -> Result<bool, Fail> {
+    match finished(alloc, instance, chosen)? {
+        Some(found) => Ok(found.items() == want),
+        None => Ok(false),
+    }
+}
+
+#[test]
+fn roots_that_share_a_package_are_raised_alone(rt: HostRuntime) -> Result<(), Fail> {
+    let shared = two_that_share(rt.alloc())?;
+    let weak = one_that_is_weak(rt.alloc())?;
+    assert!(rt; becomes(rt.alloc(), &shared, &[0, 0, 0], &[0, 1, 0])?);
+    assert!(rt; becomes(rt.alloc(), &shared, &[0, 0, 1], &[1, 0, 1])?);
+    assert!(rt; becomes(rt.alloc(), &weak, &[0, 0], &[0, 2])?);
     Ok(())
 }

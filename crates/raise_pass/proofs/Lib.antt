@@ -3,3 +3,4 @@ pub mod ReachLemmas
 pub mod StuckLemmas
 pub mod TrimLemmas
 pub mod FinishLemmas
+pub mod KeepLemmas

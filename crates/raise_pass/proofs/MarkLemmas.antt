@@ -11,7 +11,7 @@ use Rattle.version_graph.specs.Graph.{Graph, packages}
 use Rattle.version_graph.specs.Domain.{count_true}
 use Rattle.version_graph.proofs.GraphLemmas.{Contains_from_includes, includes_at}
 use Rattle.version_graph.proofs.RowLemmas.{count-le, some_true}
-use Rattle.raise_pass.specs.Reached.{is_marked, AreListed, Grows}
+use Rattle.raise_pass.specs.Reached.{is_marked, IsUnmarkedBelow, AreListed, Grows}
 
 pub or_true : (b : Bool) → (b || true) ≡ true
 or_true true = refl
@@ -165,3 +165,12 @@ marked-next old new p h e all q b = elim (eqb_tells q p) [
   | inl s ↦ ap (is_marked new) s.1 ∙ marked-here old new p h e
   | inr s ↦ (let ne = s.1 in marked-more old new p h e q (all q (omega (arith, b, ne))))
 ]
+
+-- a mark more leaves what is below it and below the first one
+pub below-set : (old new : List Bool) (p first n : ℕ) → new ≡ set old p true → IsUnmarkedBelow first old → n ≤ first → n ≤ p → IsUnmarkedBelow n new
+unfolding is_marked
+below-set old new p first n e u low less = record {
+  none = λ q b.
+      let ne : q ≢ p = omega (arith, b, less) in
+      ap (λ m. get_or m q false) e ∙ get_or-set_other old p q true false ne ∙ u.none q (omega (arith, b, low));
+}

@@ -176,7 +176,7 @@ cut-more g old mid new kept n c inside e =
           ap (λ xs. get_or xs p 0) e ∙ get_or-set_other mid n p v 0 ne ∙ c.above p (omega (arith, b));
     }
 
-not-true : (b : Bool) → not b ≡ true → b ≡ false
+pub not-true : (b : Bool) → not b ≡ true → b ≡ false
 not-true true e = sym e
 not-true false e = refl
 

@@ -8,6 +8,10 @@ use Rattle.raise_pass.specs.Finishing.{IsReached}
 unfoldable pub is_marked : List Bool → ℕ → Bool
 is_marked marks p = slice_index_or marks p false
 
+-- no package below n is marked
+pub record IsUnmarkedBelow (n : ℕ) (marks : List Bool) : Type 0 where
+  pub none : (p : ℕ) → p < n → is_marked marks p ≡ false
+
 -- the list has each marked package once
 pub record AreListed (g : Graph) (marks : List Bool) (order : List ℕ) : Type 0 where
   pub each : length marks ≡ packages g

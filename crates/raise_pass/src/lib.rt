@@ -3,7 +3,9 @@
 #![tactic(auto)]
 
 mod changing;
+mod keeping;
 mod laws;
+mod loose;
 mod raising;
 mod reaching;
 mod scratch;

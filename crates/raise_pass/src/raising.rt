@@ -1,12 +1,14 @@
 //! Raising one package after another.
-ghost use Rattle.std.specs.Prelude.{◌≡◌, ◌<◌, ◌≤◌, ℕ, List, length, slice_index, MatchBool, MatchOption, true, false};
-ghost use Rattle.version_graph.specs.Graph.{packages, states, last, is_root, is_forbidden, IsListOf, IsPlain, IsSolution};
+ghost use Rattle.std.specs.Prelude.{◌<◌, ◌≤◌, ℕ, List, slice_index, MatchBool, MatchOption, true, false};
+ghost use Rattle.version_graph.specs.Graph.{packages, states, last, is_root, IsListOf, IsPlain, IsSolution};
 ghost use Rattle.version_graph.specs.Needed.{AreNeeds};
-ghost use Rattle.raise_pass.specs.Finishing.{CanRaise, Finishes};
-ghost use Rattle.raise_pass.specs.Scratch.{IsScratchFor, AreStuck};
-ghost use Rattle.raise_pass.specs.Changed.{AreStates, IsNextRaise};
+ghost use Rattle.raise_pass.specs.Finishing.{CanRaise, IsTrimmed, Finishes};
+ghost use Rattle.raise_pass.specs.Scratch.{IsScratchFor, IsLooseFor, AreStuck, Leads};
+ghost use Rattle.raise_pass.specs.Changed.{AreStates, IsNextRaise, below_last};
 
 use crate::changing::change;
+use crate::keeping::keeps_needs;
+use crate::loose::Loose;
 use crate::reaching::{is_set, set, state_of};
 use crate::scratch::RaiseScratch;
 use crate::trimming::trim;
@@ -17,6 +19,11 @@ use version_graph::{Instance, Needs};
 /// then raises the least package that can be raised alone to the greatest state that it can have; and so on until
 /// neither applies. Afterwards nothing is unneeded and nothing can be raised alone. The roots and needs are those
 /// of the instance. It takes no memory.
+///
+/// A package is tested at first, and again when its state or a neighbour's has changed: its greater states against
+/// its neighbours. The search for the next package goes on where it was, or at the least package to be tested again.
+/// What is reached is found anew, by a pass over all packages and what they need, only after a raise that leaves out
+/// a need of something that is no root.
 pub fn raise(
     instance: &Instance,
     roots: &[u32],
@@ -36,42 +43,78 @@ pub fn raise(
     loosen(instance, &mut scratch.loose);
     let _ = trim(instance, roots, needs, states, scratch);
     while let Some((p, j)) = next_raise(instance, states.items(), &mut scratch.loose) {
-        change(instance, states, &mut scratch.loose, p, j);
-        let _ = trim(instance, roots, needs, states, scratch);
+        raise_one(instance, roots, needs, states, scratch, p, j);
     }
 }
 
 /// Marks every package: each may be raised.
-fn loosen(instance: &Instance, loose: &mut Vec<bool>)
-    requires { length loose.old.items ≡ packages instance.now }
-    ensures loose { length loose.new.items ≡ packages instance.now }
-    ensures stuck { (chosen : List ℕ) → AreStuck instance.now chosen loose.new.items }
+fn loosen(instance: &Instance, loose: &mut Loose)
+    requires { IsLooseFor instance.now loose.old }
+    ensures loose { IsLooseFor instance.now loose.new }
+    ensures stuck { (chosen : List ℕ) → AreStuck instance.now chosen loose.new.marks.items }
 {
+    loose.first = 0;
     for p in 0..instance.packages() {
-        set(loose, p, true);
+        set(&mut loose.marks, p, true);
     }
+}
+
+/// Raises p, the next package, to its state j, and sets absent what isn't needed any more.
+fn raise_one(
+    instance: &Instance,
+    roots: &[u32],
+    needs: &Needs,
+    states: &mut States,
+    scratch: &mut RaiseScratch,
+    p: u32,
+    j: u32,
+)
+    requires plain { IsPlain instance.now }
+    requires roots { IsListOf (is_root instance.now) roots.now }
+    requires needs { AreNeeds instance.now needs.now }
+    requires solution { IsSolution instance.now states.old.items }
+    requires trimmed { IsTrimmed instance.now states.old.items }
+    requires next { IsNextRaise instance.now states.old.items p j }
+    requires made { IsScratchFor instance.now scratch.old }
+    requires stuck { AreStuck instance.now states.old.items scratch.old.loose.marks.items }
+    ensures leads { (first : List ℕ) → Leads instance.now first states.old.items → Leads instance.now first states.new.items }
+    ensures trimmed { IsTrimmed instance.now states.new.items }
+    ensures solution { IsSolution instance.now states.new.items }
+    ensures made { IsScratchFor instance.now scratch.new }
+    ensures stuck { AreStuck instance.now states.new.items scratch.new.loose.marks.items }
+    ensures below { below_last instance.now states.new.items < below_last instance.now states.old.items }
+{
+    let keeps = keeps_needs(instance, needs, p, state_of(states.items(), p), j);
+    change(instance, states, &mut scratch.loose, p, j);
+    if keeps {
+        return;
+    }
+    let _ = trim(instance, roots, needs, states, scratch);
 }
 
 /// The least package that can be raised alone, with the greatest state that it can be raised to. The packages of
 /// which it is found that they can't be raised lose their marks.
-fn next_raise(instance: &Instance, chosen: &[u32], loose: &mut Vec<bool>) -> Option<(u32, u32)>
+fn next_raise(instance: &Instance, chosen: &[u32], loose: &mut Loose) -> Option<(u32, u32)>
     requires made { AreStates instance.now chosen.now }
-    requires loose { length loose.old.items ≡ packages instance.now }
-    requires stuck { AreStuck instance.now chosen.now loose.old.items }
+    requires loose { IsLooseFor instance.now loose.old }
+    requires stuck { AreStuck instance.now chosen.now loose.old.marks.items }
     ensures next { MatchOption result
         ((p j : ℕ) → CanRaise instance.now chosen.now p j → ⊥)
         (λ next. IsNextRaise instance.now chosen.now next.0 next.1) }
-    ensures loose { length loose.new.items ≡ packages instance.now }
-    ensures stuck { AreStuck instance.now chosen.now loose.new.items }
+    ensures loose { IsLooseFor instance.now loose.new }
+    ensures stuck { AreStuck instance.now chosen.now loose.new.marks.items }
 {
-    for p in 0..instance.packages() {
-        if is_set(loose, p) {
+    let first = loose.first;
+    for p in first..instance.packages() {
+        if is_set(&loose.marks, p) {
             if let Some(j) = greatest_raise(instance, chosen, p) {
+                loose.first = p;
                 return Some((p, j));
             }
-            set(loose, p, false);
+            set(&mut loose.marks, p, false);
         }
     }
+    loose.first = instance.packages();
     None
 }
 

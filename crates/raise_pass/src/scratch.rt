@@ -2,6 +2,7 @@
 ghost use Rattle.std.specs.Prelude.{◌≡◌, ◌≤◌, length, replicate, vec_capacity, false, true, IfOk};
 ghost use Rattle.version_graph.specs.Graph.{packages};
 
+use crate::loose::Loose;
 use std::alloc::{AllocError, Global};
 use version_graph::Instance;
 
@@ -12,8 +13,8 @@ pub struct RaiseScratch {
     pub(crate) reached: Vec<bool>,
     /// These packages, in the order in which they were found.
     pub(crate) order: Vec<u32>,
-    /// Which packages may be raised: of every other it is known that it can't be.
-    pub(crate) loose: Vec<bool>,
+    /// The packages that may be raised.
+    pub(crate) loose: Loose,
 }
 
 impl RaiseScratch {
@@ -27,7 +28,10 @@ impl RaiseScratch {
         Ok(RaiseScratch {
             reached: marks(alloc, count)?,
             order: Vec::with_capacity(alloc, count)?,
-            loose: marks(alloc, count)?,
+            loose: Loose {
+                marks: marks(alloc, count)?,
+                first: 0,
+            },
         })
     }
 }

@@ -4,10 +4,11 @@ ghost use Rattle.version_graph.specs.Graph.{packages, states, last, is_root, IsL
 ghost use Rattle.version_graph.specs.Needed.{AreNeeds};
 ghost use Rattle.raise_pass.specs.Finishing.{IsTrimmed, Trims};
 ghost use Rattle.raise_pass.specs.Reached.{is_marked};
-ghost use Rattle.raise_pass.specs.Scratch.{IsScratchFor, AreStuck};
+ghost use Rattle.raise_pass.specs.Scratch.{IsScratchFor, IsLooseFor, AreStuck};
 ghost use Rattle.raise_pass.specs.Changed.{AreStates, WasTrimmed, below_last};
 
 use crate::changing::change;
+use crate::loose::Loose;
 use crate::reaching::{find_reached, is_set, state_of};
 use crate::scratch::RaiseScratch;
 use pkg_world::States;
@@ -26,12 +27,12 @@ pub(crate) fn trim(
     requires needs { AreNeeds instance.now needs.now }
     requires solution { IsSolution instance.now states.old.items }
     requires made { IsScratchFor instance.now scratch.old }
-    requires stuck { AreStuck instance.now states.old.items scratch.old.loose.items }
+    requires stuck { AreStuck instance.now states.old.items scratch.old.loose.marks.items }
     ensures result { MatchBool result (Trims instance.now states.old.items states.new.items) (WasTrimmed instance.now states.old.items states.new.items) }
     ensures trimmed { IsTrimmed instance.now states.new.items }
     ensures solution { IsSolution instance.now states.new.items }
     ensures made { IsScratchFor instance.now scratch.new }
-    ensures stuck { AreStuck instance.now states.new.items scratch.new.loose.items }
+    ensures stuck { AreStuck instance.now states.new.items scratch.new.loose.marks.items }
     ensures below { below_last instance.now states.new.items ≤ below_last instance.now states.old.items }
 {
     find_reached(
@@ -56,18 +57,18 @@ fn drop_unreached(
     instance: &Instance,
     reached: &[bool],
     states: &mut States,
-    loose: &mut Vec<bool>,
+    loose: &mut Loose,
     p: u32,
 ) -> bool
     requires known { p < packages instance.now }
     requires reached { length reached.now ≡ packages instance.now }
     requires made { AreStates instance.now states.old.items }
-    requires loose { length loose.old.items ≡ packages instance.now }
-    requires stuck { AreStuck instance.now states.old.items loose.old.items }
+    requires loose { IsLooseFor instance.now loose.old }
+    requires stuck { AreStuck instance.now states.old.items loose.old.marks.items }
     ensures result { result ≡ (not (is_marked reached.now p) && not (slice_index states.old.items p == last instance.now p)) }
     ensures states { states.new.items ≡ slice_set states.old.items p (if is_marked reached.now p then slice_index states.old.items p else last instance.now p) }
-    ensures loose { length loose.new.items ≡ packages instance.now }
-    ensures stuck { AreStuck instance.now states.new.items loose.new.items }
+    ensures loose { IsLooseFor instance.now loose.new }
+    ensures stuck { AreStuck instance.now states.new.items loose.new.marks.items }
 {
     let absent = instance.states(p) - 1;
     if is_set(reached, p) || state_of(states.items(), p) == absent {

@@ -5,6 +5,7 @@ use Rattle.raise_pass.proofs.raising.loosen.Given as goal
 
 abbrev pub invariant-loop-p : goal.invariant-loop-p
 invariant-loop-p l = record {
-  each : length l.loose.items ≡ packages l.instance;
-  all : (q : ℕ) → q < l.p → is_marked l.loose.items q ≡ true;
+  each : length l.loose.marks.items ≡ packages l.instance;
+  start : l.loose.first ≡ 0;
+  all : (q : ℕ) → q < l.p → is_marked l.loose.marks.items q ≡ true;
 }

@@ -9,7 +9,7 @@ invariant-loop-p l = record {
   made : IsScratchFor l.instance l.scratch;
   solution : IsSolution l.instance l.states.items;
   trimmed : IsTrimmed l.instance l.states.items;
-  stuck : AreStuck l.instance l.states.items l.scratch.loose.items;
+  stuck : AreStuck l.instance l.states.items l.scratch.loose.marks.items;
   leads : Leads l.instance l.fn.states.items l.states.items;
 }
 

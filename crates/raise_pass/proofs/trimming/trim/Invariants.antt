@@ -10,5 +10,5 @@ invariant-loop-p l = record {
   reached : IsReachedSet l.instance l.initial.states.items (is_marked l.scratch.reached.items);
   cut : IsCutBelow l.instance l.initial.states.items l.states.items (is_marked l.scratch.reached.items) l.p;
   due : IsDue l.instance l.initial.states.items (is_marked l.scratch.reached.items) l.p l.trimmed;
-  stuck : AreStuck l.instance l.states.items l.scratch.loose.items;
+  stuck : AreStuck l.instance l.states.items l.scratch.loose.marks.items;
 }
