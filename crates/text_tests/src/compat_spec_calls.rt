@@ -269,16 +269,12 @@ fn a_range_keeps_its_text(rt: HostRuntime) -> Result<(), Fail> {
 
 /// The ranges `0.2` and `1.1-1.3`, put together by each of the list's calls.
 fn two_ranges(alloc: Global) -> Result<RangeSet, SpecFault> {
-    let first = Range::read(alloc, "3")?;
-    let second = Range::read(alloc, "1.1-1.3")?;
-    let third = Range::read(alloc, "4")?;
-    let other = Range::read(alloc, "0.2")?;
     let mut set = RangeSet::make(alloc);
     set.reserve(1)?;
-    set.push_spare(first);
-    set.push(second)?;
-    set.push(third)?;
-    set.set(0, other);
+    set.push_spare(Range::read(alloc, "3")?);
+    set.push(Range::read(alloc, "1.1-1.3")?)?;
+    set.push(Range::read(alloc, "4")?)?;
+    set.set(0, Range::read(alloc, "0.2")?);
     set.remove(2);
     Ok(set)
 }

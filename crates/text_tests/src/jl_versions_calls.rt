@@ -1,5 +1,7 @@
 //! Versions that are read, printed and compared.
 use jl_versions::{Ident, Version, VersionFault};
+use std::alloc::Global;
+use std::process::Abort;
 use std::test::Fail;
 
 /// Texts that are no versions, with the length of the longest front that begins one.
@@ -101,14 +103,19 @@ fn versions_are_printed_and_read_again(rt: HostRuntime) -> Result<(), Fail> {
     Ok(())
 }
 
+fn is_below(rt: &impl Abort, alloc: Global, version: &Version, above: &str) -> Result<(), Fail> {
+    let greater = Version::read(alloc, above)?;
+    assert!(rt; *version < greater, "below {above}");
+    assert!(rt; *version != greater);
+    Ok(())
+}
+
 #[test]
 fn versions_rise(rt: HostRuntime) -> Result<(), Fail> {
     for (place, text) in RISING.iter().enumerate() {
         let version = Version::read(rt.alloc(), text)?;
         for above in &RISING[place + 1..] {
-            let greater = Version::read(rt.alloc(), above)?;
-            assert!(rt; version < greater, "{text} {above}");
-            assert!(rt; version != greater);
+            is_below(&rt, rt.alloc(), &version, above)?;
         }
         assert!(rt; version.copy(rt.alloc())? == version);
     }

@@ -5,6 +5,7 @@ ghost use Rattle.toml_view.specs.Document.{nesting, nesting_limit};
 
 use pkg_world::Text;
 use std::alloc::{AllocError, Global};
+use std::process::Abort;
 use std::test::Fail;
 use toml::value::{Date, Datetime};
 use toml_view::{
@@ -103,23 +104,25 @@ fn another_kind_is_refused_at_its_key_path(rt: HostRuntime) -> Result<(), Fail> 
     Ok(())
 }
 
-#[test]
-fn texts_and_lists_are_found(rt: HostRuntime) -> Result<(), Fail> {
-    let table = view(rt.alloc(), FILE.as_bytes())?;
-    assert_eq!(rt; need_text(rt.alloc(), &table, "text")?, "x");
-    assert_eq!(rt; opt_text(rt.alloc(), &table, "text")?, Some("x"));
-    assert!(rt; opt_text(rt.alloc(), &table, "absent")?.is_none());
+fn has_texts_and_lists(rt: &impl Abort, alloc: Global, table: &Table) -> Result<(), Fail> {
+    assert_eq!(rt; need_text(alloc, table, "text")?, "x");
+    assert_eq!(rt; opt_text(alloc, table, "text")?, Some("x"));
+    assert!(rt; opt_text(alloc, table, "absent")?.is_none());
     for (key, count) in [("text", 1), ("list", 2), ("absent", 0)] {
-        assert_eq!(rt; text_or_list(rt.alloc(), &table, key)?.items().len(), count);
+        assert_eq!(rt; text_or_list(alloc, table, key)?.items().len(), count);
     }
     Ok(())
 }
 
 #[test]
-fn identifiers_are_found_in_the_order_of_names(rt: HostRuntime) -> Result<(), Fail> {
+fn texts_and_lists_are_found(rt: HostRuntime) -> Result<(), Fail> {
     let table = view(rt.alloc(), FILE.as_bytes())?;
-    assert_eq!(rt; uuid_table(rt.alloc(), &table, "absent")?.items().len(), 0);
-    let ids = uuid_table(rt.alloc(), &table, "ids")?;
+    has_texts_and_lists(&rt, rt.alloc(), &table)
+}
+
+fn has_identifiers(rt: &impl Abort, alloc: Global, table: &Table) -> Result<(), Fail> {
+    assert_eq!(rt; uuid_table(alloc, table, "absent")?.items().len(), 0);
+    let ids = uuid_table(alloc, table, "ids")?;
     assert_eq!(rt; ids.items().len(), 2);
     let (first, id) = &ids.items()[0];
     assert_eq!(rt; first.as_str(), "A");
@@ -127,17 +130,29 @@ fn identifiers_are_found_in_the_order_of_names(rt: HostRuntime) -> Result<(), Fa
     Ok(())
 }
 
+#[test]
+fn identifiers_are_found_in_the_order_of_names(rt: HostRuntime) -> Result<(), Fail> {
+    let table = view(rt.alloc(), FILE.as_bytes())?;
+    has_identifiers(&rt, rt.alloc(), &table)
+}
+
 const PRINTED: &str =
     "d = 2026-02-28T23:59:00.5-03:30\nday = 2024-02-29\nf = 0.5\nn = -7\nt = \"\\u00e9 \\\"\\n\"\n\
     yes = true\nlist = [[1, 2], [], [{ k = 07:32:00 }]]\n[a]\n[a.\"b c\"]\nx = 1\n[[many]]\nx = 1\n[[many]]\n";
+
+/// The table that the printed bytes of a table give.
+fn again(alloc: Global, table: &Table) -> Result<Table, Fail>
+    requires { nesting (table_view table.now) ≤ nesting_limit }
+{
+    let bytes = print_table(alloc, table)?;
+    Ok(view(alloc, bytes.items())?)
+}
 
 #[test]
 fn a_printed_table_reads_again_to_an_equal_table(rt: HostRuntime) -> Result<(), Fail> {
     let table = view(rt.alloc(), PRINTED.as_bytes())?;
     assert_eq!(rt; table.len(), 9);
-    let bytes = print_table(rt.alloc(), &table)?;
-    let again = view(rt.alloc(), bytes.items())?;
-    assert!(rt; again == table);
+    assert!(rt; again(rt.alloc(), &table)? == table);
     Ok(())
 }
 

@@ -1,4 +1,9 @@
 //! What differs between the answer of a step and the wanted one, a line for each.
+ghost use Rattle.std.specs.Prelude.{◌≡◌, ◌≤◌, ◌+◌, ◌==◌, ◌||◌, IfOk, OnOk, vec_len};
+ghost use Rattle.std.specs.Str.{bytes_eq};
+ghost use Rattle.worked_cases.specs.Differing as spec;
+ghost use Rattle.worked_cases.specs.Differing.{line_count, one_unless, failing};
+
 use crate::case::{Files, Wanted};
 use std::alloc::{AllocError, Global};
 use std::str;
@@ -20,66 +25,245 @@ pub fn differences(
     before: &Files,
     wanted: &Wanted,
     answer: &Answer,
-) -> Result<Vec<String>, AllocError> {
-    let mut lines = Vec::new(alloc);
-    push_code(alloc, wanted.status, answer.status, &mut lines)?;
-    push_told(alloc, wanted.told.as_str(), answer.told, &mut lines)?;
-    push_texts(alloc, wanted, answer, &mut lines)?;
-    push_files(alloc, before, &wanted.changed, &answer.files, &mut lines)?;
-    Ok(lines)
+) -> Result<Vec<String>, AllocError>
+    ensures { IfOk result (λ lines. spec.answer_count wanted.now answer.now + spec.file_count before.now wanted.now.changed answer.now.files ≤ vec_len lines) }
+{
+    let mut found = Findings::none(alloc);
+    found.answer(wanted, answer)?;
+    found.files(before, &wanted.changed, &answer.files)?;
+    Ok(found.into_lines())
 }
 
-fn push_code(alloc: Global, want: u8, got: u8, lines: &mut Vec<String>) -> Result<(), AllocError> {
-    if want != got {
-        lines.push(format!(in alloc; "status: want {want}, got {got}")?)?;
-    }
-    Ok(())
-}
-
-fn push_told(
+/// Lines of what differs. Each comparison adds one line where it fails, and none where it holds.
+#[derive(Drop)]
+pub struct Findings {
     alloc: Global,
-    want: &str,
-    got: &str,
-    lines: &mut Vec<String>,
-) -> Result<(), AllocError> {
-    if want != got {
-        lines.push(format!(in alloc; "told: want {want}, got {got}")?)?;
+    lines: Vec<String>,
+}
+
+impl Findings {
+    /// No lines yet.
+    pub fn none(alloc: Global) -> Findings
+        ensures { line_count result ≡ 0 }
+    {
+        Findings {
+            alloc,
+            lines: Vec::new(alloc),
+        }
     }
-    Ok(())
+
+    /// The lines, in the order in which they were added.
+    pub fn into_lines(self) -> Vec<String>
+        ensures { vec_len result ≡ line_count self }
+    {
+        let Findings { lines, .. } = self;
+        lines
+    }
+
+    /// Adds a line.
+    pub fn add(&mut self, line: String) -> Result<(), AllocError>
+        ensures { OnOk result (line_count self.new ≡ line_count self.old + 1) }
+    {
+        self.lines.push(line)?;
+        Ok(())
+    }
+
+    /// Compares all but the files.
+    fn answer(&mut self, wanted: &Wanted, answer: &Answer) -> Result<(), AllocError>
+        ensures { OnOk result (line_count self.new ≡ line_count self.old + spec.answer_count wanted.now answer.now) }
+    {
+        self.code(wanted.status, answer.status)?;
+        self.told(wanted.told.as_str(), answer.told)?;
+        self.text("out", wanted.out.as_bytes(), answer.out.as_slice())?;
+        self.text("err", wanted.err.as_bytes(), answer.err.as_slice())
+    }
+
+    fn code(&mut self, want: u8, status: u8) -> Result<(), AllocError>
+        ensures { OnOk result (line_count self.new ≡ line_count self.old + one_unless (want == status)) }
+    {
+        if want == status {
+            return Ok(());
+        }
+        self.add(format!(in self.alloc; "status: want {want}, got {status}")?)
+    }
+
+    fn told(&mut self, want: &str, told: &str) -> Result<(), AllocError>
+        ensures { OnOk result (line_count self.new ≡ line_count self.old + one_unless (bytes_eq want.now told.now)) }
+    {
+        if want == told {
+            return Ok(());
+        }
+        self.add(format!(in self.alloc; "told: want {want}, got {told}")?)
+    }
+
+    /// Tells the first line in which two texts differ.
+    fn text(&mut self, what: &str, want: &[u8], got: &[u8]) -> Result<(), AllocError>
+        ensures { OnOk result (line_count self.new ≡ line_count self.old + one_unless (bytes_eq want.now got.now)) }
+    {
+        if want == got {
+            return Ok(());
+        }
+        self.add(first_difference(self.alloc, what, want, got)?)
+    }
+
+    /// Compares the files after a step with those before it and the changed ones on top.
+    pub fn files(
+        &mut self,
+        before: &Files,
+        changed: &Files,
+        after: &Files,
+    ) -> Result<(), AllocError>
+        ensures { OnOk result (line_count self.old + spec.file_count before.now changed.now after.now ≤ line_count self.new) }
+    {
+        self.changed_files(changed, after)?;
+        self.kept_files(before, changed, after)?;
+        self.new_files(before, changed, after)
+    }
+
+    /// Tells the changed files that are not as wanted.
+    fn changed_files(&mut self, changed: &Files, after: &Files) -> Result<(), AllocError>
+        ensures { OnOk result (line_count self.old + failing (spec.is_made after.now) changed.now.entries ≤ line_count self.new) }
+    {
+        'files: for (path, want) in changed.iter() {
+            self.changed_file(path, want, after)?;
+        }
+        Ok(())
+    }
+
+    fn changed_file(
+        &mut self,
+        path: &String,
+        want: &Vec<u8>,
+        after: &Files,
+    ) -> Result<(), AllocError>
+        ensures { OnOk result (line_count self.old + one_unless (spec.is_made after.now (path.now, want.now)) ≤ line_count self.new) }
+    {
+        match after.get(path.as_str()) {
+            Some(got) => self.made(path.as_str(), want.as_slice(), got.as_slice()),
+            None => self.add(format!(in self.alloc; "changed {path}: is not there")?),
+        }
+    }
+
+    /// Tells a changed file that is not as wanted: a file of TOML goes by its table, any other by its bytes.
+    fn made(&mut self, path: &str, want: &[u8], got: &[u8]) -> Result<(), AllocError>
+        ensures { OnOk result (line_count self.old + one_unless (spec.is_toml path.now || bytes_eq want.now got.now) ≤ line_count self.new) }
+    {
+        if is_toml(path) {
+            self.table(path, want, got)
+        } else {
+            self.bytes(path, want, got)
+        }
+    }
+
+    /// Tells where two texts differ that are not both TOML with one table.
+    fn table(&mut self, path: &str, want: &[u8], got: &[u8]) -> Result<(), AllocError>
+        ensures { OnOk result (line_count self.old ≤ line_count self.new) }
+    {
+        if is_same_table(self.alloc, want, got) {
+            return Ok(());
+        }
+        self.bytes(path, want, got)
+    }
+
+    /// Tells the files that were there and were to stay as they were.
+    fn kept_files(
+        &mut self,
+        before: &Files,
+        changed: &Files,
+        after: &Files,
+    ) -> Result<(), AllocError>
+        ensures { OnOk result (line_count self.new ≡ line_count self.old + failing (spec.is_kept changed.now after.now) before.now.entries) }
+    {
+        'files: for (path, want) in before.iter() {
+            self.kept_file(path, want, changed, after)?;
+        }
+        Ok(())
+    }
+
+    fn kept_file(
+        &mut self,
+        path: &String,
+        want: &Vec<u8>,
+        changed: &Files,
+        after: &Files,
+    ) -> Result<(), AllocError>
+        ensures { OnOk result (line_count self.new ≡ line_count self.old + one_unless (spec.is_kept changed.now after.now (path.now, want.now))) }
+    {
+        if changed.contains_key(path.as_str()) {
+            return Ok(());
+        }
+        match after.get(path.as_str()) {
+            Some(got) => self.bytes(path.as_str(), want.as_slice(), got.as_slice()),
+            None => self.add(format!(in self.alloc; "changed {path}: is gone")?),
+        }
+    }
+
+    /// Tells the files that were neither there nor wanted.
+    fn new_files(
+        &mut self,
+        before: &Files,
+        changed: &Files,
+        after: &Files,
+    ) -> Result<(), AllocError>
+        ensures { OnOk result (line_count self.new ≡ line_count self.old + failing (spec.is_known before.now changed.now) after.now.entries) }
+    {
+        'files: for (path, got) in after.iter() {
+            self.new_file(path, got, before, changed)?;
+        }
+        Ok(())
+    }
+
+    fn new_file(
+        &mut self,
+        path: &String,
+        _got: &Vec<u8>,
+        before: &Files,
+        changed: &Files,
+    ) -> Result<(), AllocError>
+        ensures { OnOk result (line_count self.new ≡ line_count self.old + one_unless (spec.is_known before.now changed.now (path.now, _got.now))) }
+    {
+        if before.contains_key(path.as_str()) || changed.contains_key(path.as_str()) {
+            return Ok(());
+        }
+        self.add(format!(in self.alloc; "changed {path}: was not to be there")?)
+    }
+
+    fn bytes(&mut self, path: &str, want: &[u8], got: &[u8]) -> Result<(), AllocError>
+        ensures { OnOk result (line_count self.new ≡ line_count self.old + one_unless (bytes_eq want.now got.now)) }
+    {
+        let what = format!(in self.alloc; "changed {path}")?;
+        self.text(what.as_str(), want, got)
+    }
 }
 
-fn push_texts(
-    alloc: Global,
-    wanted: &Wanted,
-    answer: &Answer,
-    lines: &mut Vec<String>,
-) -> Result<(), AllocError> {
-    push_text(alloc, "out", wanted.out.as_bytes(), &answer.out, lines)?;
-    push_text(alloc, "err", wanted.err.as_bytes(), &answer.err, lines)
-}
-
-/// The first line in which two texts differ.
-fn push_text(
+/// The line on the first place in which two texts differ.
+fn first_difference(
     alloc: Global,
     what: &str,
     want: &[u8],
     got: &[u8],
-    lines: &mut Vec<String>,
-) -> Result<(), AllocError> {
-    if want == got {
-        return Ok(());
-    }
+) -> Result<String, AllocError> {
     let wants = lines_of(alloc, want)?;
     let gots = lines_of(alloc, got)?;
-    for place in 0..wants.len().max(gots.len()) {
-        let want = line_at(&wants, place);
-        let got = line_at(&gots, place);
-        if want != got {
-            lines.push(line_text(alloc, what, place, want, got)?)?;
-            return Ok(());
+    let place = first_place(&wants, &gots);
+    line_text(
+        alloc,
+        what,
+        place,
+        line_at(&wants, place),
+        line_at(&gots, place),
+    )
+}
+
+/// The first place in which lines differ; past the last one where none do.
+fn first_place(wants: &Vec<&[u8]>, gots: &Vec<&[u8]>) -> usize {
+    let count = wants.len().max(gots.len());
+    for place in 0..count {
+        if line_at(wants, place) != line_at(gots, place) {
+            return place;
         }
     }
-    Ok(())
+    count
 }
 
 /// The lines of a text, each with its newline.
@@ -112,94 +296,10 @@ fn line_text(
     format!(in alloc; "{what} line {number}: want {want:?}, got {got:?}")
 }
 
-/// What differs between the files after a step and those before it with the changed ones on top.
-pub fn push_files(
-    alloc: Global,
-    before: &Files,
-    changed: &Files,
-    after: &Files,
-    lines: &mut Vec<String>,
-) -> Result<(), AllocError> {
-    push_wanted(alloc, changed, after, lines)?;
-    push_kept(alloc, before, changed, after, lines)?;
-    push_new(alloc, before, changed, after, lines)
-}
-
-/// The changed files that are not as wanted.
-fn push_wanted(
-    alloc: Global,
-    changed: &Files,
-    after: &Files,
-    lines: &mut Vec<String>,
-) -> Result<(), AllocError> {
-    for (path, want) in changed.iter() {
-        match after.get(path.as_str()) {
-            Some(got) => push_file(alloc, path.as_str(), want, got, lines)?,
-            None => lines.push(format!(in alloc; "changed {path}: is not there")?)?,
-        }
-    }
-    Ok(())
-}
-
-/// The files that were there and were to stay as they were.
-fn push_kept(
-    alloc: Global,
-    before: &Files,
-    changed: &Files,
-    after: &Files,
-    lines: &mut Vec<String>,
-) -> Result<(), AllocError> {
-    for (path, want) in before.iter() {
-        if changed.contains_key(path.as_str()) {
-            continue;
-        }
-        match after.get(path.as_str()) {
-            Some(got) => push_bytes(alloc, path.as_str(), want, got, lines)?,
-            None => lines.push(format!(in alloc; "changed {path}: is gone")?)?,
-        }
-    }
-    Ok(())
-}
-
-/// The files that were neither there nor wanted.
-fn push_new(
-    alloc: Global,
-    before: &Files,
-    changed: &Files,
-    after: &Files,
-    lines: &mut Vec<String>,
-) -> Result<(), AllocError> {
-    for path in after.keys() {
-        if !before.contains_key(path.as_str()) && !changed.contains_key(path.as_str()) {
-            lines.push(format!(in alloc; "changed {path}: was not to be there")?)?;
-        }
-    }
-    Ok(())
-}
-
-/// A changed file: a file of TOML by its table, any other by its bytes.
-fn push_file(
-    alloc: Global,
-    path: &str,
-    want: &[u8],
-    got: &[u8],
-    lines: &mut Vec<String>,
-) -> Result<(), AllocError> {
-    if path.ends_with(".toml") && is_same_table(alloc, want, got) {
-        return Ok(());
-    }
-    push_bytes(alloc, path, want, got, lines)
-}
-
-fn push_bytes(
-    alloc: Global,
-    path: &str,
-    want: &[u8],
-    got: &[u8],
-    lines: &mut Vec<String>,
-) -> Result<(), AllocError> {
-    let what = format!(in alloc; "changed {path}")?;
-    push_text(alloc, what.as_str(), want, got, lines)
+fn is_toml(path: &str) -> bool
+    ensures { result ≡ spec.is_toml path.now }
+{
+    path.as_bytes().ends_with(b".toml")
 }
 
 /// Whether both texts are TOML and have one table.

@@ -1,6 +1,6 @@
 //! Runs the families of a step: each call that fails in turn, and a file that is cut at every byte.
 use crate::case::{Family, Faults, Files, Step, Wanted};
-use crate::differing::{Answer, differences, push_files};
+use crate::differing::{Answer, Findings, differences};
 use crate::keys::Stop;
 use crate::running::{mem_answer, push_labelled};
 use pkg_world::{Place, StoreCall};
@@ -158,23 +158,17 @@ fn cut_differences(
     codes: &[u8],
     answer: &Answer,
 ) -> Result<Vec<String>, AllocError> {
-    let mut lines = Vec::new(alloc);
+    let mut found = Findings::none(alloc);
     let status = answer.status;
     if !codes.contains(&status) {
-        lines.push(format!(in alloc; "status: want one of {codes:?}, got {status}")?)?;
+        found.add(format!(in alloc; "status: want one of {codes:?}, got {status}")?)?;
     }
     if (status == 0) == answer.err.starts_with(b"error") {
-        lines.push(format!(in alloc; "err: an error line and status {status}")?)?;
+        found.add(format!(in alloc; "err: an error line and status {status}")?)?;
     }
     if status != 0 && !answer.out.is_empty() {
-        lines.push(format!(in alloc; "out: output and status {status}")?)?;
+        found.add(format!(in alloc; "out: output and status {status}")?)?;
     }
-    push_files(
-        alloc,
-        before,
-        &BTreeMap::new(alloc),
-        &answer.files,
-        &mut lines,
-    )?;
-    Ok(lines)
+    found.files(before, &BTreeMap::new(alloc), &answer.files)?;
+    Ok(found.into_lines())
 }

@@ -71,12 +71,17 @@ fn text_of(alloc: Global, key: &str, value: &Value) -> Result<String, Stop> {
     }
 }
 
-/// The text at a key that must be there.
-pub fn need_text(alloc: Global, table: &Table, key: &str) -> Result<String, Stop> {
+/// The value at a key that must be there.
+pub fn need<'a>(alloc: Global, table: &'a Table, key: &str) -> Result<&'a Value, Stop> {
     match table.get(key) {
-        Some(value) => text_of(alloc, key, value),
+        Some(value) => Ok(value),
         None => Err(malformed(alloc, key, "is missing")),
     }
+}
+
+/// The text at a key that must be there.
+pub fn need_text(alloc: Global, table: &Table, key: &str) -> Result<String, Stop> {
+    text_of(alloc, key, need(alloc, table, key)?)
 }
 
 /// The text at a key, or another where the key is absent.
@@ -141,10 +146,7 @@ fn number_of(alloc: Global, key: &str, value: &Value) -> Result<u64, Stop> {
 
 /// The number from 0 on at a key that must be there.
 pub fn need_number(alloc: Global, table: &Table, key: &str) -> Result<u64, Stop> {
-    match table.get(key) {
-        Some(value) => number_of(alloc, key, value),
-        None => Err(malformed(alloc, key, "is missing")),
-    }
+    number_of(alloc, key, need(alloc, table, key)?)
 }
 
 /// The exit code at a key that must be there.

@@ -2,7 +2,7 @@
 use crate::case::{Case, Files, Step, Texts, Wanted, World};
 use crate::faults::{families_in, faults_in};
 use crate::keys::{
-    Stop, malformed, need_code, need_text, only, opt_text_or, table_at, text_or, texts_at,
+    Stop, malformed, need, need_code, need_text, only, opt_text_or, table_at, text_or, texts_at,
     texts_of, under,
 };
 use crate::paths::path_text;
@@ -143,12 +143,9 @@ fn add_each(alloc: Global, table: &Table, files: &mut Files) -> Result<(), Stop>
 }
 
 fn steps_at(alloc: Global, table: &Table, texts: &Texts, world: &World) -> Result<Vec<Step>, Stop> {
-    match table.get("steps") {
-        Some(value) => match value.as_array() {
-            Some(list) => steps_in(alloc, list, texts, world),
-            None => Err(malformed(alloc, "steps", "is no list of tables")),
-        },
-        None => Err(malformed(alloc, "steps", "is missing")),
+    match need(alloc, table, "steps")?.as_array() {
+        Some(list) => steps_in(alloc, list, texts, world),
+        None => Err(malformed(alloc, "steps", "is no list of tables")),
     }
 }
 
@@ -203,12 +200,10 @@ fn read_step(alloc: Global, table: &Table, texts: &Texts, world: &World) -> Resu
 
 /// The words of a step: a list, or a text that is split at each space; the empty text has none.
 fn words_at(alloc: Global, table: &Table) -> Result<Vec<String>, Stop> {
-    match table.get("run") {
-        Some(value) => match value.as_str() {
-            Some(text) => Ok(split_words(alloc, text)?),
-            None => texts_of(alloc, "run", value),
-        },
-        None => Err(malformed(alloc, "run", "is missing")),
+    let value = need(alloc, table, "run")?;
+    match value.as_str() {
+        Some(text) => Ok(split_words(alloc, text)?),
+        None => texts_of(alloc, "run", value),
     }
 }
 

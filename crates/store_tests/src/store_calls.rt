@@ -1,49 +1,12 @@
-//! Paths and stores in memory for the tests, and what a store tells at each call.
+//! What a store tells at each call.
+use crate::files::at;
 use pkg_world::{
-    KindAnswer, ListAnswer, MemStore, NormPath, NormPaths, PathFault, ReadAnswer, Store, StoreCall,
-    WriteAnswer,
+    KindAnswer, ListAnswer, NormPath, PathFault, ReadAnswer, Store, StoreCall, WriteAnswer,
 };
 use std::alloc::{AllocError, Global};
 
-/// A path and the text of the file there.
-pub(crate) type File = (&'static str, &'static str);
-
 /// A call on a path, and what it tells. A replacement puts the text `new` there.
 pub(crate) type Row = (StoreCall, &'static str, &'static str);
-
-/// The path that a text means from the root.
-pub(crate) fn at(alloc: Global, text: &str) -> Result<NormPath, PathFault> {
-    NormPath::join(alloc, &NormPath::root(alloc), text)
-}
-
-/// The paths that texts mean from the root.
-pub(crate) fn paths(alloc: Global, texts: &[&str]) -> Result<NormPaths, PathFault> {
-    let mut paths = NormPaths::make(alloc);
-    for text in texts {
-        paths.push(at(alloc, text)?)?;
-    }
-    Ok(paths)
-}
-
-/// Puts files into a store.
-pub(crate) fn fill<S: Store>(
-    alloc: Global,
-    store: &mut S,
-    files: &[File],
-) -> Result<(), PathFault> {
-    for (path, text) in files {
-        let path = at(alloc, path)?;
-        let _ = store.replace(alloc, &path, text.as_bytes());
-    }
-    Ok(())
-}
-
-/// A store with these files.
-pub(crate) fn filled(alloc: Global, files: &[File]) -> Result<MemStore, PathFault> {
-    let mut store = MemStore::make(alloc)?;
-    fill(alloc, &mut store, files)?;
-    Ok(store)
-}
 
 /// What reading a path tells: its text, or a word.
 pub(crate) fn read<S: Store>(

@@ -1,6 +1,6 @@
 //! A store that remembers, over a store in memory whose calls fail.
-use crate::stores::{Row, first_wrong};
-use pkg_world::{MemStore, StoreCall};
+use crate::store_calls::{Row, first_wrong};
+use pkg_world::{MemStore, PathFault, StoreCall};
 use read_once::ReadOnce;
 use std::alloc::{AllocError, Global};
 use std::test::Fail;
@@ -39,11 +39,13 @@ fn failing(alloc: Global) -> Result<MemStore, AllocError> {
     Ok(store)
 }
 
+fn first_wrong_of_once(alloc: Global) -> Result<Option<Row>, PathFault> {
+    let mut once = ReadOnce::over(alloc, failing(alloc)?);
+    first_wrong(alloc, &mut once, ROWS.as_slice())
+}
+
 #[test]
 fn what_was_said_is_not_asked_again(rt: HostRuntime) -> Result<(), Fail> {
-    let alloc = rt.alloc();
-    let mut once = ReadOnce::over(alloc, failing(alloc)?);
-    let wrong = first_wrong(alloc, &mut once, ROWS.as_slice())?;
-    assert_eq!(rt; wrong, None);
+    assert_eq!(rt; first_wrong_of_once(rt.alloc())?, None);
     Ok(())
 }

@@ -1,7 +1,8 @@
 //! Lists, names, paths, and the stores and sinks in memory.
 ghost use Rattle.std.specs.Prelude.{◌≡◌, ◌∷◌, [], IfOk};
 
-use crate::stores::{File, Row, at, filled, first_wrong, read};
+use crate::files::{File, at, filled};
+use crate::store_calls::{Row, first_wrong, read};
 use pkg_world::{
     Duplicate, Listed, MemSink, MemStore, Name, Named, NormPath, PathFault, PutFail, Sink, Store,
     StoreCall, SureSink, SureStore, Text, Unread, file_at, is_file, is_folder, names_in,
@@ -113,19 +114,25 @@ const FAILING: [Row; 10] = [
     (StoreCall::Replace, "/b", "failed"),
 ];
 
-#[test]
-fn both_stores_tell_a_small_tree(rt: HostRuntime) -> Result<(), Fail> {
-    let alloc = rt.alloc();
-    let mut sure = SureStore::make(alloc)?;
-    assert_eq!(rt; first_wrong(alloc, &mut sure, SMALL_TREE.as_slice())?, None);
-    let mut mem = MemStore::make(alloc)?;
-    assert_eq!(rt; first_wrong(alloc, &mut mem, SMALL_TREE.as_slice())?, None);
-    Ok(())
+fn first_wrong_of_sure(alloc: Global) -> Result<Option<Row>, PathFault> {
+    let mut store = SureStore::make(alloc)?;
+    first_wrong(alloc, &mut store, SMALL_TREE.as_slice())
+}
+
+fn first_wrong_of_mem(alloc: Global) -> Result<Option<Row>, PathFault> {
+    let mut store = MemStore::make(alloc)?;
+    first_wrong(alloc, &mut store, SMALL_TREE.as_slice())
 }
 
 #[test]
-fn listed_calls_alone_fail(rt: HostRuntime) -> Result<(), Fail> {
-    let alloc = rt.alloc();
+fn both_stores_tell_a_small_tree(rt: HostRuntime) -> Result<(), Fail> {
+    assert_eq!(rt; first_wrong_of_sure(rt.alloc())?, None);
+    assert_eq!(rt; first_wrong_of_mem(rt.alloc())?, None);
+    Ok(())
+}
+
+/// A store where the calls fail that `FAILING` is about.
+fn failing(alloc: Global) -> Result<MemStore, AllocError> {
     let mut store = MemStore::make(alloc)?;
     for (call, nth) in [
         (StoreCall::Read, 2),
@@ -135,7 +142,17 @@ fn listed_calls_alone_fail(rt: HostRuntime) -> Result<(), Fail> {
     ] {
         store.fail_at(alloc, call, nth)?;
     }
-    assert_eq!(rt; first_wrong(alloc, &mut store, FAILING.as_slice())?, None);
+    Ok(store)
+}
+
+fn first_wrong_of_failing(alloc: Global) -> Result<Option<Row>, PathFault> {
+    let mut store = failing(alloc)?;
+    first_wrong(alloc, &mut store, FAILING.as_slice())
+}
+
+#[test]
+fn listed_calls_alone_fail(rt: HostRuntime) -> Result<(), Fail> {
+    assert_eq!(rt; first_wrong_of_failing(rt.alloc())?, None);
     Ok(())
 }
 
@@ -146,20 +163,40 @@ fn top_level(alloc: Global) -> Result<NormPath, PathFault>
     NormPath::join(alloc, &NormPath::root(alloc), "/a")
 }
 
+/// What is read where a sure store got the root folder and then a file.
+fn sure_text(alloc: Global, path: &NormPath) -> Result<String, AllocError>
+    requires { path.now ≡ (97 ∷ []) ∷ [] }
+{
+    let mut store = SureStore::make(alloc)?;
+    store.put_folder(alloc, &NormPath::root(alloc))?;
+    store.put_file(alloc, path, b"one")?;
+    read(alloc, &mut store, path)
+}
+
+/// What is read where a store got a folder.
+fn folder_text(alloc: Global, path: &NormPath) -> Result<String, AllocError>
+    requires { path.now ≡ (97 ∷ []) ∷ [] }
+{
+    let mut store = MemStore::make(alloc)?;
+    store.put_folder(alloc, path)?;
+    read(alloc, &mut store, path)
+}
+
+/// What is read where a store got a file.
+fn file_text(alloc: Global, path: &NormPath) -> Result<String, AllocError>
+    requires { path.now ≡ (97 ∷ []) ∷ [] }
+{
+    let mut store = MemStore::make(alloc)?;
+    store.put_file(alloc, path, b"two")?;
+    read(alloc, &mut store, path)
+}
+
 #[test]
 fn what_is_put_is_read_back(rt: HostRuntime) -> Result<(), Fail> {
-    let alloc = rt.alloc();
-    let path = top_level(alloc)?;
-    let mut sure = SureStore::make(alloc)?;
-    sure.put_folder(alloc, &NormPath::root(alloc))?;
-    sure.put_file(alloc, &path, b"one")?;
-    assert_eq!(rt; read(alloc, &mut sure, &path)?.as_str(), "one");
-    let mut mem = MemStore::make(alloc)?;
-    mem.put_folder(alloc, &path)?;
-    assert_eq!(rt; read(alloc, &mut mem, &path)?.as_str(), "folder");
-    let mut other = MemStore::make(alloc)?;
-    other.put_file(alloc, &path, b"two")?;
-    assert_eq!(rt; read(alloc, &mut other, &path)?.as_str(), "two");
+    let path = top_level(rt.alloc())?;
+    assert_eq!(rt; sure_text(rt.alloc(), &path)?.as_str(), "one");
+    assert_eq!(rt; folder_text(rt.alloc(), &path)?.as_str(), "folder");
+    assert_eq!(rt; file_text(rt.alloc(), &path)?.as_str(), "two");
     Ok(())
 }
 
@@ -168,8 +205,8 @@ const ASKED: [File; 2] = [("/a/b", "text"), ("/a/Z", "")];
 
 /// How many bytes the file at a path has, how many names the folder there, and which of the two stands there.
 fn asked(alloc: Global, text: &str) -> Result<(Option<usize>, Option<usize>, [bool; 2]), Fail> {
-    let mut store = filled(alloc, ASKED.as_slice())?;
     let path = at(alloc, text)?;
+    let mut store = filled(alloc, ASKED.as_slice())?;
     Ok(stands(alloc, &mut store, &path)?)
 }
 
@@ -231,9 +268,13 @@ fn read_all(alloc: Global, store: &mut SureStore, count: u32) -> Result<u32, Pat
     Ok(found)
 }
 
+fn read_of_twenty_thousand(alloc: Global) -> Result<u32, PathFault> {
+    let mut store = SureStore::make(alloc)?;
+    read_all(alloc, &mut store, 20_000)
+}
+
 #[test]
 fn twenty_thousand_files_are_read(rt: HostRuntime) -> Result<(), Fail> {
-    let mut store = SureStore::make(rt.alloc())?;
-    assert_eq!(rt; read_all(rt.alloc(), &mut store, 20_000)?, 20_000);
+    assert_eq!(rt; read_of_twenty_thousand(rt.alloc())?, 20_000);
     Ok(())
 }

@@ -7,6 +7,7 @@ use jl_versions::Version;
 use manifest_file::{Manifest, Origin, Stanza};
 use pkg_world::{Duplicate, ExtList, Listed, Name, NameIds};
 use std::alloc::{AllocError, Global};
+use std::process::Abort;
 use std::test::Fail;
 use toml::ser::table_to_string;
 use uuid::Uuid;
@@ -44,38 +45,50 @@ fn shown(alloc: Global, ids: &NameIds) -> Result<String, AllocError> {
     Ok(text)
 }
 
-/// What is shown of `FULL`: name, last byte of the identifier, origin, pinned, whether there is a version, how many
-/// extensions, dependencies and optional ones.
-const FULL_SHOWN: &str = "Dates 48 std false true 0 Printf49 , \n\
+/// What is shown of `FULL`: the version of Julia, and of each stanza the name, the last byte of the identifier, the origin,
+/// pinned, whether there is a version, how many extensions, dependencies and optional ones.
+const FULL_SHOWN: &str = "[1, 11, 2]\n\
+    Dates 48 std false true 0 Printf49 , \n\
     Lib 2 path false true 2 , Dates48 \n\
     Old 3 tree true true 0 Lib2 , \n\
     Printf 49 std false false 0 , \n\
     Work 4 repo false true 0 Lib2 Printf49 , \n";
 
+/// What is shown of the manifest that bytes say.
+fn read_and_shown(alloc: Global, bytes: &[u8]) -> Result<String, Fail> {
+    let manifest = Manifest::read(alloc, bytes)?;
+    shown_all(alloc, &manifest)
+}
+
 #[test]
 fn a_manifest_of_every_kind_of_stanza_is_read(rt: HostRuntime) -> Result<(), Fail> {
-    let manifest = Manifest::read(rt.alloc(), FULL.as_bytes())?;
-    assert!(rt; manifest.julia_version.is_some());
-    assert_eq!(rt; shown_all(rt.alloc(), &manifest)?.as_str(), FULL_SHOWN);
+    let text = read_and_shown(rt.alloc(), FULL.as_bytes())?;
+    assert_eq!(rt; text.as_str(), FULL_SHOWN);
     Ok(())
 }
 
 #[test]
 fn extensions_have_their_triggers_and_a_repository_its_parts(rt: HostRuntime) -> Result<(), Fail> {
     let manifest = Manifest::read(rt.alloc(), FULL.as_bytes())?;
-    let stanzas = manifest.stanzas.items();
+    has_its_parts(&rt, rt.alloc(), manifest.stanzas.items())
+}
+
+/// Compares the extensions of the second stanza and the parts of the last one with `FULL`.
+fn has_its_parts(rt: &impl Abort, alloc: Global, stanzas: &[Stanza]) -> Result<(), Fail> {
     assert_eq!(rt; stanzas.len(), 5);
     let extensions = stanzas[1].extensions.items();
     assert_eq!(rt; extensions.len(), 2);
     let (first, triggers) = &extensions[1];
     assert_eq!(rt; first.as_str(), "LibMoreExt");
     assert_eq!(rt; triggers.items().len(), 2);
-    let origin = stanzas[4].origin.copy(rt.alloc())?;
-    assert_eq!(rt;
-        parts(rt.alloc(), &origin)?.as_str(),
-        "https://example.org/W.git main sub 255"
-    );
+    let text = copied_parts(alloc, &stanzas[4].origin)?;
+    assert_eq!(rt; text.as_str(), "https://example.org/W.git main sub 255");
     Ok(())
+}
+
+fn copied_parts(alloc: Global, origin: &Origin) -> Result<String, AllocError> {
+    let copy = origin.copy(alloc)?;
+    parts(alloc, &copy)
 }
 
 /// The parts of a repository.
@@ -93,13 +106,23 @@ fn parts(alloc: Global, origin: &Origin) -> Result<String, AllocError> {
     format!(in alloc; "{url} {rev} {subdir} {last}")
 }
 
-/// What is shown of the stanzas.
-fn shown_all(alloc: Global, manifest: &Manifest) -> Result<String, AllocError> {
-    let mut text = String::new(alloc);
+/// What is shown of a manifest.
+fn shown_all(alloc: Global, manifest: &Manifest) -> Result<String, Fail> {
+    let mut text = julia_text(alloc, &manifest.julia_version)?;
     for stanza in manifest.stanzas.items() {
         push_shown(alloc, &mut text, stanza)?;
     }
     Ok(text)
+}
+
+fn julia_text(alloc: Global, version: &Option<Version>) -> Result<String, AllocError> {
+    match version {
+        Some(version) => {
+            let numbers = version.triple();
+            format!(in alloc; "{numbers:?}\n")
+        }
+        None => String::from_str(alloc, "no version\n"),
+    }
 }
 
 fn push_shown(alloc: Global, text: &mut String, stanza: &Stanza) -> Result<(), AllocError> {
@@ -148,14 +171,26 @@ fn weak(alloc: Global) -> Result<NameIds, AllocError> {
     Ok(ids)
 }
 
+/// The text of a manifest's table.
+fn written(alloc: Global, manifest: &Manifest) -> Result<String, Fail>
+    requires { IsTrue (are_by_name (said manifest.now).stanzas) }
+{
+    let table = manifest.to_table(alloc)?;
+    Ok(table_to_string(alloc, &table)?)
+}
+
+fn lone_written(alloc: Global) -> Result<String, Fail> {
+    let manifest = lone(alloc)?;
+    written(alloc, &manifest)
+}
+
 #[test]
 fn what_is_written_is_read_again(rt: HostRuntime) -> Result<(), Fail> {
-    let manifest = lone(rt.alloc())?;
-    let text = table_to_string(rt.alloc(), &manifest.to_table(rt.alloc())?)?;
-    let again = Manifest::read(rt.alloc(), text.as_bytes())?;
+    let text = lone_written(rt.alloc())?;
+    let shown = read_and_shown(rt.alloc(), text.as_bytes())?;
     assert_eq!(rt;
-        shown_all(rt.alloc(), &again)?.as_str(),
-        "A 200 path true true 0 , Q200 \n"
+        shown.as_str(),
+        "no version\nA 200 path true true 0 , Q200 \n"
     );
     Ok(())
 }

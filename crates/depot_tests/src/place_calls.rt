@@ -1,10 +1,10 @@
 //! The place that the texts of an environment give, and the entry file that a project's environment has.
-use crate::stores::{File, at, filled};
-use env_maps::{Context, Id, ProjectEnv};
+use env_maps::{Context, EnvFault, Id, ProjectEnv};
 use pkg_top::{PlaceFault, Status, place_from};
 use pkg_world::{MemStore, Name, NormPath, Place, Text};
 use std::alloc::{AllocError, Global};
 use std::test::Fail;
+use store_tests::files::{File, at, filled};
 use uuid::Uuid;
 
 /// The texts of an environment: the current folder, the home folder, the depots, the standard libraries and Julia.
@@ -122,18 +122,31 @@ const LIBRARY: &[File] = &[
 ];
 
 /// The identity of Dates.
-fn dates(alloc: Global) -> Result<Id, Fail> {
+fn dates(alloc: Global) -> Result<Id, AllocError> {
     Ok(Id {
-        uuid: Some(Uuid::parse_str("00000000-0000-4000-8000-000000000030")?),
+        uuid: Some(Uuid::from_u128(0x4000_8000_0000_0000_0030)),
         name: Name::of(alloc, "Dates")?,
     })
 }
 
-/// The named environment.
-fn named_env(alloc: Global, store: &mut MemStore) -> Result<ProjectEnv, Fail> {
-    let place = place_from(alloc, "/p", None, Some("/d"), None, None, Some("/s"), None)?;
+/// The entry file of an identity in the environment of a project file.
+fn entry_in(
+    alloc: Global,
+    store: &mut MemStore,
+    place: &Place,
+    file: &NormPath,
+    id: &Id,
+) -> Result<Option<NormPath>, EnvFault> {
+    let env = ProjectEnv::load(alloc, store, place, file)?;
+    env.entry(alloc, store, &Context::Top, id)
+}
+
+/// The entry file of Dates in the named environment.
+fn dates_entry(alloc: Global, store: &mut MemStore) -> Result<Option<NormPath>, Fail> {
     let file = at(alloc, "/d/environments/v1.11/Project.toml")?;
-    Ok(ProjectEnv::load(alloc, store, &place, &file)?)
+    let id = dates(alloc)?;
+    let place = place_from(alloc, "/p", None, Some("/d"), None, None, Some("/s"), None)?;
+    Ok(entry_in(alloc, store, &place, &file, &id)?)
 }
 
 /// An entry path as text.
@@ -144,13 +157,16 @@ fn entry_text(alloc: Global, entry: &Option<NormPath>) -> Result<String, AllocEr
     }
 }
 
+/// What is shown of the entry file of Dates over `LIBRARY`.
+fn shown_over_library(alloc: Global) -> Result<String, Fail> {
+    let mut store = filled(alloc, LIBRARY)?;
+    let entry = dates_entry(alloc, &mut store)?;
+    Ok(entry_text(alloc, &entry)?)
+}
+
 #[test]
 fn a_standard_library_has_its_entry(rt: HostRuntime) -> Result<(), Fail> {
-    let alloc = rt.alloc();
-    let mut store = filled(alloc, LIBRARY)?;
-    let env = named_env(alloc, &mut store)?;
-    let entry = env.entry(alloc, &mut store, &Context::Top, &dates(alloc)?)?;
-    let text = entry_text(alloc, &entry)?;
+    let text = shown_over_library(rt.alloc())?;
     assert_eq!(rt; text.as_str(), "/s/Dates/src/Dates.jl");
     Ok(())
 }

@@ -3,14 +3,15 @@ ghost use Rattle.std.specs.Prelude.{◌≡◌, ◌∷◌, [], true, IfOk};
 ghost use Rattle.std.specs.List.{list_all};
 ghost use Rattle.depot_hash.specs.Trees.{is_name};
 
-use crate::stores::{File, at, fill, filled, paths};
 use depot_hash::{
     FolderFault, Mode, TreeEntry, TreeFault, blob_id, checksum_goes_on, crc32c, folder_id,
     installed, one_text_one_path, slug, slug_text, slug4, tree_id,
 };
-use pkg_world::{Listed, MemStore, Name, NormPath, PathFault, Store, StoreCall, TreeId};
+use pkg_world::{MemStore, Name, NormPath, PathFault, Store, StoreCall, TreeId};
 use std::alloc::{AllocError, Global};
+use std::process::Abort;
 use std::test::Fail;
+use store_tests::files::{File, at, fill, filled, paths};
 use uuid::Uuid;
 
 /// The tree of the folder `/a` below, with `bin/a` as a file that can be run.
@@ -166,18 +167,44 @@ fn the_first_name_of_two_entries_is_told(rt: HostRuntime) -> Result<(), Fail> {
     Ok(())
 }
 
-#[test]
-fn folders_have_gits_ids(rt: HostRuntime) -> Result<(), Fail> {
-    let alloc = rt.alloc();
-    let mut store = MemStore::make(alloc)?;
-    store.put_folder(alloc, &empty(alloc)?)?;
+/// A store with the files of `PACKAGE`, and the empty folder.
+fn package(alloc: Global) -> Result<MemStore, PathFault> {
+    let mut store = with_empty(alloc)?;
     fill(alloc, &mut store, PACKAGE.as_slice())?;
+    Ok(store)
+}
+
+fn with_empty(alloc: Global) -> Result<MemStore, PathFault> {
+    let path = empty(alloc)?;
+    let mut store = MemStore::make(alloc)?;
+    store.put_folder(alloc, &path)?;
+    Ok(store)
+}
+
+/// What `folder_id` answers at these paths.
+fn id_at(
+    alloc: Global,
+    store: &mut MemStore,
+    folder: &str,
+    execs: &[&str],
+) -> Result<Result<TreeId, FolderFault>, PathFault> {
+    let folder = at(alloc, folder)?;
+    let execs = paths(alloc, execs)?;
+    Ok(folder_id(alloc, store, &folder, &execs))
+}
+
+fn have_those_ids(rt: &impl Abort, alloc: Global, store: &mut MemStore) -> Result<(), Fail> {
     for (folder, exec, want) in FOLDERS {
-        let execs = paths(alloc, &["/x", exec])?;
-        let got = folder_id(alloc, &mut store, &at(alloc, folder)?, &execs);
+        let got = id_at(alloc, store, folder, &["/x", exec])?;
         assert_eq!(rt; shown(alloc, got)?.as_str(), want, "{folder}");
     }
     Ok(())
+}
+
+#[test]
+fn folders_have_gits_ids(rt: HostRuntime) -> Result<(), Fail> {
+    let mut store = package(rt.alloc())?;
+    have_those_ids(&rt, rt.alloc(), &mut store)
 }
 
 /// The path of a file below that many folders.
@@ -190,51 +217,70 @@ fn deep(alloc: Global, count: usize) -> Result<String, AllocError> {
     Ok(text)
 }
 
+/// What `folder_id` answers of `/r` with one file, below that many folders.
+fn deep_id(alloc: Global, count: usize) -> Result<Result<TreeId, FolderFault>, PathFault> {
+    let path = at(alloc, deep(alloc, count)?.as_str())?;
+    let mut store = MemStore::make(alloc)?;
+    let _ = store.replace(alloc, &path, b"deep");
+    id_at(alloc, &mut store, "/r", &[])
+}
+
 #[test]
 fn a_path_has_64_folders_below(rt: HostRuntime) -> Result<(), Fail> {
-    let alloc = rt.alloc();
     for (count, want) in [
         (64, "26b18298d7a8147f10228760e3ce87dd9eb3121f"),
         (65, "TreeDepth 65"),
     ] {
-        let mut store = MemStore::make(alloc)?;
-        let path = at(alloc, deep(alloc, count)?.as_str())?;
-        let _ = store.replace(alloc, &path, b"deep");
-        let execs = Listed::make(alloc);
-        let got = folder_id(alloc, &mut store, &at(alloc, "/r")?, &execs);
-        assert_eq!(rt; shown(alloc, got)?.as_str(), want);
+        let got = deep_id(rt.alloc(), count)?;
+        assert_eq!(rt; shown(rt.alloc(), got)?.as_str(), want);
     }
     Ok(())
 }
 
-#[test]
-fn a_call_that_fails_is_told_by_its_path(rt: HostRuntime) -> Result<(), Fail> {
-    let alloc = rt.alloc();
+/// What `installed` answers of the package A.
+fn installed_at(
+    alloc: Global,
+    store: &mut MemStore,
+    depots: &[&str],
+    uuid: &Uuid,
+    tree: &TreeId,
+) -> Result<Result<Option<NormPath>, FolderFault>, PathFault> {
+    let depots = paths(alloc, depots)?;
+    let name = Name::of(alloc, "A")?;
+    Ok(installed(alloc, store, &depots, &name, uuid, tree))
+}
+
+/// A store with one file, where the first read, the second list and the first kind fail.
+fn failing(alloc: Global) -> Result<MemStore, PathFault> {
     let mut store = filled(alloc, [("/a/x", "in a")].as_slice())?;
-    store.fail_at(alloc, StoreCall::Read, 1)?;
-    store.fail_at(alloc, StoreCall::List, 2)?;
-    store.fail_at(alloc, StoreCall::Kind, 1)?;
-    let execs = Listed::make(alloc);
+    for (call, nth) in [
+        (StoreCall::Read, 1),
+        (StoreCall::List, 2),
+        (StoreCall::Kind, 1),
+    ] {
+        store.fail_at(alloc, call, nth)?;
+    }
+    Ok(store)
+}
+
+fn tell_their_paths(rt: &impl Abort, alloc: Global, store: &mut MemStore) -> Result<(), Fail> {
     for want in [
         "failed /a/x",
         "failed /a",
         "ff68abe468b4c20b58995e894958777bb0681dce",
     ] {
-        let got = folder_id(alloc, &mut store, &at(alloc, "/a")?, &execs);
+        let got = id_at(alloc, store, "/a", &[])?;
         assert_eq!(rt; shown(alloc, got)?.as_str(), want);
     }
-    let depots = paths(alloc, &["/d"])?;
-    let name = Name::of(alloc, "A")?;
-    let got = installed(
-        alloc,
-        &mut store,
-        &depots,
-        &name,
-        &Uuid::nil(),
-        &TreeId::of([0; 20]),
-    );
+    let got = installed_at(alloc, store, &["/d"], &Uuid::nil(), &TreeId::of([0; 20]))?;
     assert_eq!(rt; place(alloc, got)?.as_str(), "failed /d/packages/A/CgWBk");
     Ok(())
+}
+
+#[test]
+fn a_call_that_fails_is_told_by_its_path(rt: HostRuntime) -> Result<(), Fail> {
+    let mut store = failing(rt.alloc())?;
+    tell_their_paths(&rt, rt.alloc(), &mut store)
 }
 
 /// Files of the depots `/d` and `/e`, and where the tree is installed.
@@ -265,17 +311,22 @@ const DEPOTS: [([File; 2], &str); 6] = [
     ),
 ];
 
-#[test]
-fn a_tree_is_found_in_the_depots(rt: HostRuntime) -> Result<(), Fail> {
-    let alloc = rt.alloc();
-    let depots = paths(alloc, &["/d", "/e"])?;
-    let name = Name::of(alloc, "A")?;
+/// What `installed` answers of the depots `/d` and `/e` with these files.
+fn installed_among(
+    alloc: Global,
+    files: &[File],
+) -> Result<Result<Option<NormPath>, FolderFault>, PathFault> {
     let tree = TreeId::read(RUNS).unwrap_or(TreeId::of([0; 20]));
     let uuid = Uuid::from_u128(0x6c8d_3b52_0f59_4f1e_9a3c_5f0e_7a3b_1c02);
+    let mut store = filled(alloc, files)?;
+    installed_at(alloc, &mut store, &["/d", "/e"], &uuid, &tree)
+}
+
+#[test]
+fn a_tree_is_found_in_the_depots(rt: HostRuntime) -> Result<(), Fail> {
     for (files, want) in DEPOTS {
-        let mut store = filled(alloc, files.as_slice())?;
-        let got = installed(alloc, &mut store, &depots, &name, &uuid, &tree);
-        assert_eq!(rt; place(alloc, got)?.as_str(), want);
+        let got = installed_among(rt.alloc(), files.as_slice())?;
+        assert_eq!(rt; place(rt.alloc(), got)?.as_str(), want);
     }
     Ok(())
 }

@@ -1,7 +1,14 @@
 //! Project files that are read and written again, with what no command prints of them.
+ghost use Rattle.std.specs.Prelude.{◌≤◌, IsTrue};
+ghost use Rattle.toml.specs.View.{table_view};
+ghost use Rattle.toml_view.specs.Document.{nesting, nesting_limit};
+ghost use Rattle.project_file.specs.Keys.{names_none};
+
 use jl_versions::Version;
-use pkg_world::{Duplicate, Name, NameIds};
+use pkg_world::{Bytes, Duplicate, Name, NameIds};
 use project_file::{Project, Source, SpecText};
+use std::alloc::Global;
+use std::process::Abort;
 use std::test::Fail;
 use toml_view::print_table;
 
@@ -130,28 +137,52 @@ fn numbers(project: &Project) -> [u32; 3] {
     }
 }
 
+/// Compares what a project says with `FILE`.
+fn is_that_file(rt: &impl Abort, project: &Project) {
+    for (what, want) in SHOWN {
+        assert_eq!(rt; shown(project, what), Some(want), "{what:?}");
+    }
+    assert_eq!(rt; counts(project), [2, 1, 2, 2, 1, 2, 4]);
+    assert_eq!(rt; numbers(project), [0x78, 0x9A, 3]);
+}
+
+/// The bytes of a project's table.
+fn written(alloc: Global, project: &Project) -> Result<Bytes, Fail>
+    requires plain { IsTrue (names_none (table_view project.now.rest)) }
+    requires nested { nesting (table_view project.now.rest) ≤ nesting_limit }
+{
+    let table = project.to_table(alloc)?;
+    Ok(print_table(alloc, &table)?)
+}
+
+/// Reads bytes that say what `FILE` does, and gives those that are written again.
+fn read_and_written(rt: &impl Abort, alloc: Global, bytes: &[u8]) -> Result<Bytes, Fail> {
+    let project = Project::read(alloc, bytes)?;
+    is_that_file(rt, &project);
+    written(alloc, &project)
+}
+
 #[test]
 fn a_file_as_pkg_writes_it_is_read_and_written(rt: HostRuntime) -> Result<(), Fail> {
-    let project = Project::read(rt.alloc(), FILE.as_bytes())?;
-    let bytes = print_table(rt.alloc(), &project.to_table(rt.alloc())?)?;
-    let again = Project::read(rt.alloc(), bytes.items())?;
-    for (what, want) in SHOWN {
-        assert_eq!(rt; shown(&project, what), Some(want), "{what:?}");
-        assert_eq!(rt; shown(&again, what), Some(want), "{what:?} again");
-    }
-    assert_eq!(rt; counts(&project), [2, 1, 2, 2, 1, 2, 4]);
-    assert_eq!(rt; counts(&again), [2, 1, 2, 2, 1, 2, 4]);
-    assert_eq!(rt; numbers(&project), [0x78, 0x9A, 3]);
-    assert_eq!(rt; numbers(&again), [0x78, 0x9A, 3]);
+    let bytes = read_and_written(&rt, rt.alloc(), FILE.as_bytes())?;
+    let _ = read_and_written(&rt, rt.alloc(), bytes.items())?;
+    Ok(())
+}
+
+/// Tests that a project says nothing and is written as a table without keys.
+fn is_without_keys(rt: &impl Abort, alloc: Global, project: &Project) -> Result<(), Fail>
+    requires plain { IsTrue (names_none (table_view project.now.rest)) }
+    requires nested { nesting (table_view project.now.rest) ≤ nesting_limit }
+{
+    assert_eq!(rt; counts(project), [0, 0, 0, 0, 0, 0, 0]);
+    assert_eq!(rt; project.to_table(alloc)?.len(), 0);
     Ok(())
 }
 
 #[test]
 fn a_missing_file_is_a_table_without_keys(rt: HostRuntime) -> Result<(), Fail> {
     let project = Project::empty(rt.alloc());
-    assert_eq!(rt; counts(&project), [0, 0, 0, 0, 0, 0, 0]);
-    assert_eq!(rt; project.to_table(rt.alloc())?.len(), 0);
-    Ok(())
+    is_without_keys(&rt, rt.alloc(), &project)
 }
 
 #[test]

@@ -1,0 +1,8 @@
+//! The tests of project files and manifests that only a named call can show: that calls succeed where memory is ample,
+//! and examples of their answers. They stand here since a crate with tests is proved twice.
+#![tactic(auto)]
+
+#[cfg(test)]
+mod manifest_calls;
+#[cfg(test)]
+mod project_calls;
