@@ -1,6 +1,5 @@
 -- A reading rests on what its files hold.
 use Rattle.std.proofs.Common.{◌≡◌, ℕ, List, [], ◌∷◌, ◌++◌, map, codes, Option, Some, None, Result, Ok, refl, ap, ◌∙◌}
-use Rattle.std.specs.List.{flat_map, AllByRecursion}
 use Rattle.toml.specs.Data.{Members}
 use Rattle.toml_view.specs.Causes.{caused}
 use Rattle.pkg_world.specs.Each.{joined_ok, read_each}
@@ -14,7 +13,7 @@ use Rattle.package_tables.specs.declared.package_rows.Entry.{Entry}
 use Rattle.package_tables.specs.declared.package_rows.VersionRow.{VersionRow}
 use Rattle.registry_tables.specs.Answers.{Read, then_read, at_file, optional_of, needed_of, needed_table}
 use Rattle.registry_tables.specs.Registries.{registry_file}
-use Rattle.registry_tables.specs.Registry.{Registered, registry_in, registry_of}
+use Rattle.registry_tables.specs.Registry.{Registered, registry_of}
 use Rattle.registry_tables.specs.Rows.{Tables, Rows, package_at, versions_at, entries_at, entries_in, strong_in, weak_in, with_versions, after_package, package_in, versions_in, rows_at, tables_in as section_tables}
 use Rattle.registry_tables.specs.declared.package_list.Package.{Package}
 use Rattle.registered_offers.specs.Consulted.{AgreeAt, package_files, files_inside, files_where, files_at, table_files, RegistriesRestOnFiles, TablesRestOnFiles}

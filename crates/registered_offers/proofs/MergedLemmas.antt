@@ -14,7 +14,7 @@ use Rattle.jl_versions.specs.OrderLaws.{version_total, equal_is_same}
 use Rattle.jl_versions.specs.declared.version.Version.{Version}
 use Rattle.registry_tables.specs.Rows.{Rows}
 use Rattle.package_tables.specs.declared.package_rows.VersionRow.{VersionRow}
-use Rattle.registered_offers.specs.Merged.{ListedVersion, ListedVersions, listed_version, put_version, put_versions, merged}
+use Rattle.registered_offers.specs.Merged.{ListedVersion, ListedVersions, listed_version, put_version, put_versions}
 use Rattle.registered_offers.specs.MergedLaws.{row_in, first_row, FirstRowCounts, VersionsRise, RowsAreOfTheirVersions}
 
 -- ---- entries in the order of their keys

@@ -1,6 +1,6 @@
 -- The tables that a registry's own reading gives, and what stops one reading of several.
-use Rattle.std.proofs.Common.{◌≡◌, ℕ, List, [], ◌∷◌, Option, Some, None, IfSome, Result, Ok, Err, MatchResult, option_map, refl, sym, ap, subst, ◌∙◌}
-use Rattle.pkg_world.specs.Path.{Path, joined}
+use Rattle.std.proofs.Common.{◌≡◌, ℕ, List, Option, Some, None, IfSome, Result, Ok, Err, MatchResult, option_map, refl, sym, ap, ◌∙◌}
+use Rattle.pkg_world.specs.Path.{Path}
 use Rattle.pkg_world.specs.Tree.{Files}
 use Rattle.pkg_world.proofs.Each.{Stops}
 use Rattle.registry_tables.specs.Answers.{Read, Refuses}

@@ -1,5 +1,5 @@
 -- The room of a table's lists says nothing of a version's row.
-use Rattle.std.proofs.Common.{◌≡◌, ℕ, Bool, true, false, cond, ◌&&◌, List, [], ◌∷◌, ◌++◌, map, filter, Result, Ok, Err, IfOk, refl, sym, ap, ◌∙◌}
+use Rattle.std.proofs.Common.{◌≡◌, Bool, true, false, cond, ◌&&◌, List, [], ◌∷◌, ◌++◌, map, filter, Result, Ok, Err, IfOk, refl, sym, ap, ◌∙◌}
 use Rattle.jl_versions.specs.declared.version.Version.{Version}
 use Rattle.compat_spec.specs.Listing.{Listing}
 use Rattle.compat_spec.specs.Ranges.{Ranged}
