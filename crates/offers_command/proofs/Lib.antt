@@ -1,2 +1,1 @@
-pub mod OfferReads
 pub mod OfferRows

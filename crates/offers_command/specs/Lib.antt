@@ -1,3 +1,2 @@
 pub mod OfferLines
-pub mod OfferTables
 pub mod OffersDue

@@ -2,48 +2,19 @@
 -- its row says. Of a version that several registries list the first one's row counts. (Rows: Pkg, registries; the rest is an
 -- own rule.)
 --     package_lines tables     the lines, from the tables of the registries that list the package, in the order of these
-use Rattle.std.specs.Prelude.{ℕ, Bool, true, false, List, [], ◌∷◌, ◌++◌, map, fold, codes, Option, Some, None, is_some, if◌then◌else◌}
+use Rattle.std.specs.Prelude.{ℕ, Bool, true, false, List, [], ◌∷◌, ◌++◌, map, codes, Option, Some, None}
 use Rattle.std.specs.List.{flat_map}
-use Rattle.std.specs.BTreeMap.{insert_entry, is_at}
-use Rattle.std.specs.Map.{lookup}
 use Rattle.uuid.specs.Text.{hyphenated_text, lower}
 use Rattle.pkg_world.specs.TreeIds.{tree_text}
-use Rattle.jl_versions.specs.Order.{version_cmp}
 use Rattle.jl_versions.specs.Printing.{printed}
 use Rattle.jl_versions.specs.declared.version.Version.{Version}
 use Rattle.compat_spec.specs.Ranges.{Ranged}
 use Rattle.registry_tables.specs.Rows.{Rows}
-use Rattle.package_tables.specs.Row.{deps_of, weak_of, compat_of, allowed_in}
+use Rattle.package_tables.specs.Row.{allowed_in}
 use Rattle.package_tables.specs.declared.expanding.Row.{Row}
-use Rattle.package_tables.specs.declared.package_rows.PackageRows.{PackageRows}
 use Rattle.package_tables.specs.declared.package_rows.VersionRow.{VersionRow}
-use Rattle.offers_command.specs.OfferTables.{kept_rows}
-
--- a version that a registry lists, and that registry's tables
-abbrev pub Offer : Type 0
-Offer = VersionRow × Rows
-
-abbrev pub offer_of : Rows → VersionRow → Offer
-offer_of rows row = (row, rows)
-
--- offers by their versions, in rising order
-abbrev pub Offers : Type 0
-Offers = List (Version × Offer)
-
-abbrev pub is_offered : Version → Offers → Bool
-is_offered v offers = is_some (lookup (is_at (version_cmp v)) offers)
-
--- one more offer at its place in the order, unless its version is there
-abbrev pub put_offer : Offers → Offer → Offers
-put_offer offers offer = if is_offered offer.0.version offers then offers else insert_entry version_cmp offers offer.0.version offer
-
--- the offers of one more registry
-abbrev pub put_offers : Offers → Rows → Offers
-put_offers offers rows = fold put_offer offers (map (offer_of rows) rows.versions)
-
--- the offers of all registries, the first registry's before the others'
-abbrev pub merged : List Rows → Offers
-merged tables = fold put_offers [] tables
+use Rattle.registered_offers.specs.Merged.{ListedVersion, ListedVersions, merged}
+use Rattle.registered_offers.specs.SaidRow.{deps_of, weak_of, compat_of}
 
 -- a dependency, behind the word of its kind
 abbrev pub id_line : List ℕ → List ℕ × List ℕ → List ℕ
@@ -66,19 +37,19 @@ abbrev pub version_line : VersionRow → List ℕ
 version_line row = printed row.version ++ (codes " " ++ (tree_text row.tree ++ (yanked_text row.yanked ++ 10 ∷ [])))
 
 -- what the row of a version says, each list by names
-abbrev pub row_lines : PackageRows → Version → List ℕ
+abbrev pub row_lines : Rows → Version → List ℕ
 row_lines rows v =
     flat_map (id_line (codes "  dep ")) (deps_of rows v)
     ++ (flat_map (id_line (codes "  weak ")) (weak_of rows v)
     ++ flat_map compat_line (compat_of rows v))
 
--- the lines of an offer
-abbrev pub offer_lines : Offer → List ℕ
-offer_lines offer = version_line offer.0 ++ row_lines (kept_rows offer.1) offer.0.version
+-- the lines of a version
+abbrev pub listed_lines : ListedVersion → List ℕ
+listed_lines listed = version_line listed.0 ++ row_lines listed.1 listed.0.version
 
--- the lines of all offers, in the order of their versions
-abbrev pub all_lines : Offers → List ℕ
-all_lines offers = flat_map (λ e. offer_lines e.1) offers
+-- the lines of all versions, in their order
+abbrev pub all_lines : ListedVersions → List ℕ
+all_lines versions = flat_map (λ e. listed_lines e.1) versions
 
 -- `NAME UUID`, as a registry lists a package
 abbrev pub head_line : Rows → List ℕ

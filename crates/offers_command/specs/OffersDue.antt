@@ -15,7 +15,7 @@ use Rattle.package_tables.specs.Row.{by_bytes}
 use Rattle.registry_tables.specs.Rows.{Rows}
 use Rattle.registry_tables.specs.declared.package_list.Package.{Package}
 use Rattle.offers_command.specs.OfferLines.{package_lines}
-use Rattle.offers_command.specs.OfferTables.{registries_in, tables_in}
+use Rattle.registered_offers.specs.ListedTables.{registries_in, tables_in}
 use Rattle.command_answers.specs.declared.status.Status.{Status}
 use Rattle.command_answers.specs.declared.status.Status.TheVariants.{MissingFile, BadFile, UnknownName}
 

@@ -2,8 +2,6 @@
 #![tactic(auto)]
 
 mod offer_lines;
-mod offer_merge;
-mod offer_tables;
 mod offers_answer;
 
 pub use offers_answer::offers;

@@ -2,15 +2,14 @@
 ghost use Rattle.std.specs.Prelude.{◌≡◌, ◌++◌, ◌∷◌, [], codes, map, IfOk, OnOk, string_bytes};
 ghost use Rattle.std.specs.List.{flat_map};
 ghost use Rattle.package_tables.specs.Row.{allowed_in, ranges_in};
+ghost use Rattle.registered_offers.specs.Merged.{merged};
 ghost use Rattle.offers_command.specs.OfferLines as spec;
-ghost use Rattle.offers_command.specs.OfferTables.{kept_rows};
 
-use crate::offer_merge::{Offer, Offers, merged};
-use crate::offer_tables::{Tables, row_of};
 use command_answers::plain_uuid;
 use compat_spec::{Allowed, Range};
 use jl_versions::Version;
 use pkg_world::Name;
+use registered_offers::{ListedVersion, ListedVersions, PackageTables, merged};
 use registry_tables::{Row, VersionRow};
 use std::alloc::{AllocError, Global};
 use uuid::Uuid;
@@ -19,7 +18,7 @@ use uuid::Uuid;
 pub(crate) fn push_package(
     alloc: Global,
     text: &mut String,
-    tables: &[Tables],
+    tables: &[PackageTables],
 ) -> Result<(), AllocError>
     ensures { OnOk result (string_bytes text.new ≡ string_bytes text.old ++ spec.package_lines tables.now) }
 {
@@ -29,40 +28,44 @@ pub(crate) fn push_package(
     }
 }
 
-/// Appends the name and the identifier of the first table's package, and the offers of all tables.
+/// Appends the name and the identifier of the first table's package, and the versions of all tables.
 fn push_listed(
     alloc: Global,
     text: &mut String,
-    first: &Tables,
-    tables: &[Tables],
+    first: &PackageTables,
+    tables: &[PackageTables],
 ) -> Result<(), AllocError>
-    ensures { OnOk result (string_bytes text.new ≡ string_bytes text.old ++ (spec.head_line first.now ++ spec.all_lines (spec.merged tables.now))) }
+    ensures { OnOk result (string_bytes text.new ≡ string_bytes text.old ++ (spec.head_line first.now ++ spec.all_lines (merged tables.now))) }
 {
     let head = id_line(alloc, "", first.name().as_str(), first.uuid())?;
     text.push_str(head.as_str())?;
-    push_offers(alloc, text, merged(alloc, tables)?)
+    push_versions(alloc, text, merged(alloc, tables)?)
 }
 
-/// Appends the lines of all offers, in the order of their versions.
-fn push_offers<'a>(
+/// Appends the lines of all versions, in their order.
+fn push_versions<'a>(
     alloc: Global,
     text: &mut String,
-    mut offers: Offers<'a>,
+    mut versions: ListedVersions<'a>,
 ) -> Result<(), AllocError>
-    ensures { OnOk result (string_bytes text.new ≡ string_bytes text.old ++ spec.all_lines offers.entry.entries) }
+    ensures { OnOk result (string_bytes text.new ≡ string_bytes text.old ++ spec.all_lines versions.entry.entries) }
 {
-    'offers: while let Some((_, offer)) = offers.pop_first() {
-        push_offer(alloc, text, &offer)?;
+    'versions: while let Some((_, listed)) = versions.pop_first() {
+        push_one(alloc, text, &listed)?;
     }
     Ok(())
 }
 
-fn push_offer<'a>(alloc: Global, text: &mut String, offer: &Offer<'a>) -> Result<(), AllocError>
-    ensures { OnOk result (string_bytes text.new ≡ string_bytes text.old ++ spec.offer_lines offer.now) }
+fn push_one<'a>(
+    alloc: Global,
+    text: &mut String,
+    listed: &ListedVersion<'a>,
+) -> Result<(), AllocError>
+    ensures { OnOk result (string_bytes text.new ≡ string_bytes text.old ++ spec.listed_lines listed.now) }
 {
-    let row = offer.row();
+    let row = listed.row();
     push_version(alloc, text, row)?;
-    push_row(alloc, text, offer.tables(), &row.version)
+    push_row(alloc, text, listed.tables(), &row.version)
 }
 
 fn push_version(alloc: Global, text: &mut String, row: &VersionRow) -> Result<(), AllocError>
@@ -107,12 +110,12 @@ fn yanked_text(yanked: bool) -> &'static str
 fn push_row(
     alloc: Global,
     text: &mut String,
-    tables: &Tables,
+    tables: &PackageTables,
     version: &Version,
 ) -> Result<(), AllocError>
-    ensures { OnOk result (string_bytes text.new ≡ string_bytes text.old ++ spec.row_lines (kept_rows tables.now) version.now) }
+    ensures { OnOk result (string_bytes text.new ≡ string_bytes text.old ++ spec.row_lines tables.now version.now) }
 {
-    let row = row_of(alloc, tables, version)?;
+    let row = tables.row(alloc, version)?;
     push_made(alloc, text, &row)
 }
 

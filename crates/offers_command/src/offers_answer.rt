@@ -1,14 +1,14 @@
 //! `offers`: what the registries of all depots offer of the packages of a name.
 ghost use Rattle.std.specs.Prelude.{◌≡◌, ◌≤◌, ℕ, List, Ok, Err, IfSome, IfOk, IfErr, OnOk, MatchResult, string_bytes};
 ghost use Rattle.registry_tables.specs.Answers.{Refuses as ReadRefuses, ReadFaultRose as ReadRose};
-ghost use Rattle.offers_command.specs.OfferTables.{Adds};
+ghost use Rattle.registered_offers.specs.ListedTables.{Adds};
 ghost use Rattle.offers_command.specs.OffersDue as spec;
 ghost use Rattle.command_answers.specs.Answers.{Answers, Refuses, ReadFaultRose, NoFault, IsLate, IsUnprinted};
 
 use crate::offer_lines::push_package;
-use crate::offer_tables::{Loaded, registries_in, tables_in};
 use command_answers::Status;
 use pkg_world::{Duplicate, Ids, Listed, Name, NormPath, Place, Store};
+use registered_offers::{LoadedRegistry, registries_in, tables_in};
 use registry_tables::{Package, RegFault, registries};
 use std::alloc::{AllocError, Global};
 use std::collections::BTreeSet;
@@ -71,7 +71,7 @@ fn of_registries<S: Store>(
     alloc: Global,
     name: &Name,
     store: &mut S,
-    list: &[Loaded],
+    list: &[LoadedRegistry],
 ) -> Result<String, Status>
     ensures answer { IfSome (S.files store.old) (λ all. Answers (spec.of_registries all name.now list.now) result) }
     ensures late { IfErr result IsLate }
@@ -91,7 +91,7 @@ fn of_uuids<S: Store>(
     alloc: Global,
     name: &Name,
     store: &mut S,
-    list: &[Loaded],
+    list: &[LoadedRegistry],
     uuids: &[Uuid],
 ) -> Result<String, Status>
     ensures answer { IfSome (S.files store.old) (λ all. Answers (spec.of_uuids all name.now list.now uuids.now) result) }
@@ -123,7 +123,7 @@ fn unknown_name(alloc: Global, name: &Name) -> Status
 fn of_packages<S: Store>(
     alloc: Global,
     store: &mut S,
-    list: &[Loaded],
+    list: &[LoadedRegistry],
     uuids: &[Uuid],
 ) -> Result<String, Status>
     ensures answer { IfSome (S.files store.old) (λ all. Answers (spec.told_read (spec.packages_in all list.now uuids.now)) result) }
@@ -147,7 +147,7 @@ fn of_packages<S: Store>(
 fn packages_in<S: Store>(
     alloc: Global,
     store: &mut S,
-    list: &[Loaded],
+    list: &[LoadedRegistry],
     uuids: &[Uuid],
 ) -> Result<String, RegFault>
     ensures told { IfSome (S.files store.old) (λ all. MatchResult result (λ text. spec.packages_in all list.now uuids.now ≡ Ok (string_bytes text)) (ReadRefuses (spec.packages_in all list.now uuids.now))) }
@@ -166,7 +166,7 @@ fn packages_in<S: Store>(
 fn add_packages<S: Store>(
     alloc: Global,
     store: &mut S,
-    list: &[Loaded],
+    list: &[LoadedRegistry],
     uuids: &[Uuid],
     text: &mut String,
 ) -> Result<(), RegFault>
@@ -188,7 +188,7 @@ fn add_packages<S: Store>(
 fn add_package<S: Store>(
     alloc: Global,
     store: &mut S,
-    list: &[Loaded],
+    list: &[LoadedRegistry],
     uuid: &Uuid,
     text: &mut String,
 ) -> Result<(), RegFault>
@@ -208,7 +208,7 @@ fn add_package<S: Store>(
 }
 
 /// The identifiers that some registry lists under the name, in the order of their bytes and each once.
-fn uuids_named(alloc: Global, name: &str, list: &[Loaded]) -> Result<Ids, AllocError>
+fn uuids_named(alloc: Global, name: &str, list: &[LoadedRegistry]) -> Result<Ids, AllocError>
     ensures { IfOk result (λ ids. ids.items ≡ spec.uuids_named name.now list.now) }
 {
     let mut uuids = BTreeSet::new(alloc);

@@ -2,7 +2,7 @@ use Rattle.std.proofs.Common.{◌∙◌, arith}
 use Rattle.offers_command.specs.OffersDue.{package_in}
 use Rattle.pkg_world.proofs.Each.{rest-step, each-next, each-stops}
 use Rattle.registry_tables.specs.Answers.{Refuses}
-use Rattle.offers_command.proofs.OfferReads.{stops}
+use Rattle.registered_offers.proofs.ReadingLemmas.{stops}
 use Rattle.offers_command.proofs.offers_answer.add_packages.Goals as goal
 
 pub uuids-preserved : goal.uuids-preserved

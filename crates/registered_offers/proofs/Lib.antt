@@ -1,0 +1,4 @@
+pub mod ConsultedLemmas
+pub mod MergedLemmas
+pub mod ReadingLemmas
+pub mod RowLemmas
