@@ -1,4 +1,4 @@
-use Rattle.std.proofs.Common.{ℕ, ◌-◌, get_or, ◌&&◌, not}
+use Rattle.std.proofs.Common.{◌-◌, get_or, ◌&&◌, not}
 use Rattle.version_graph.specs.Graph.{is_forbidden}
 use Rattle.version_graph.specs.Domain.{has}
 use Rattle.maxsum_messages.proofs.Best.{IsBestBelow}
