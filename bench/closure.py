@@ -8,16 +8,19 @@ import shutil
 import tempfile
 
 from built import built, timed
+from nets import nets
 
 MAIN = r"""//! Makes an instance, and closes its domains after one choice at a time.
 #![tactic(auto)]
 
 mod drive;
+mod nets;
 
 use anyhow::Result;
+use drive::rounds;
 use graph_pruning::{Closed, close};
+use nets::{general, mesh_pairs, net_pairs, world};
 use std::alloc::{AllocError, Global};
-use drive::{general, mesh_pairs, net_pairs, rounds, world};
 use std::env;
 use version_graph::{Domains, Instance, Trail};
 
@@ -58,7 +61,7 @@ fn main(rt: HostRuntime) -> Result<()> {
     } else {
         net_pairs(alloc, packages, states)?
     };
-    let instance = match world(alloc, packages, states, pairs.as_slice()) {
+    let instance = match world(alloc, packages, states, 0, pairs.as_slice()) {
         Ok(instance) => instance,
         Err(fault) => {
             println!(rt; "{fault:?}")?;
@@ -77,118 +80,11 @@ fn main(rt: HostRuntime) -> Result<()> {
 }
 """
 
-DRIVE = r"""//! Instances, and closing them after one choice at a time.
-ghost use Rattle.std.specs.Prelude.{◌≡◌, ◌<◌, ◌↔◌, IsTrue, length, slice_index};
+DRIVE = r"""//! Closing the domains after one choice at a time.
 ghost use Rattle.version_graph.specs.Noted.{Holds};
 
 use graph_pruning::{close, undo_to};
-use std::alloc::{AllocError, Global};
-use version_graph::{Domains, GraphFault, Instance, InstanceBuilder, Trail};
-
-type Pairs = Vec<(u32, u32, u32, u32)>;
-
-/// The first states of each two packages.
-pub fn mesh_pairs(alloc: Global, packages: u32) -> Result<Pairs, AllocError> {
-    let mut pairs = Vec::new(alloc);
-    for q in 0..packages {
-        for p in 0..q {
-            pairs.push((p, 0, q, 0))?;
-        }
-    }
-    Ok(pairs)
-}
-
-/// Each package with the next one and with that half way round; a third of the states of each two.
-pub fn net_pairs(alloc: Global, packages: u32, states: u32) -> Result<Pairs, AllocError> {
-    let mut pairs = Vec::new(alloc);
-    for p in 0..packages {
-        let next = p.wrapping_add(1) % packages;
-        push_thirds(&mut pairs, p, next, states)?;
-        let across = p.wrapping_add(packages / 2) % packages;
-        if p < across {
-            push_thirds(&mut pairs, p, across, states)?;
-        }
-    }
-    Ok(pairs)
-}
-
-fn push_thirds(pairs: &mut Pairs, p: u32, q: u32, states: u32) -> Result<(), AllocError> {
-    for i in 0..states {
-        for j in 0..states {
-            if i.wrapping_add(j).wrapping_add(p) % 3 == 0 {
-                pairs.push((p, i, q, j))?;
-            }
-        }
-    }
-    Ok(())
-}
-
-/// Packages of so many states each, each with those 1, 7 and 31 further on, and the first six tenths with the one
-/// 101 further on; somewhat more than half of the pairs of each two are forbidden.
-pub fn general(alloc: Global, packages: u32, states: u32) -> Result<Instance, GraphFault>
-    requires { 0 < states }
-{
-    let sizes = vec![in alloc; states; packages as usize]?;
-    let mut builder = InstanceBuilder::make(alloc, sizes.as_slice())?;
-    for p in 0..packages {
-        forbid_block(&mut builder, sizes.as_slice(), p, p.wrapping_add(1) % packages, states)?;
-        forbid_block(&mut builder, sizes.as_slice(), p, p.wrapping_add(7) % packages, states)?;
-        forbid_block(&mut builder, sizes.as_slice(), p, p.wrapping_add(31) % packages, states)?;
-        if p % 10 < 6 {
-            forbid_block(&mut builder, sizes.as_slice(), p, p.wrapping_add(101) % packages, states)?;
-        }
-    }
-    builder.finish(alloc)
-}
-
-fn forbid_block(
-    builder: &mut InstanceBuilder,
-    sizes: &[u32],
-    p: u32,
-    q: u32,
-    states: u32,
-) -> Result<(), GraphFault>
-    requires { builder.old.sizes ≡ sizes.now }
-    ensures { builder.new.sizes ≡ sizes.now }
-{
-    for i in 0..states {
-        for j in 0..states {
-            if i.wrapping_add(j).wrapping_add(p) % 20 < 11
-                && p != q
-                && has_state(sizes, p, i)
-                && has_state(sizes, q, j)
-            {
-                builder.forbid_pair(p, i, q, j)?;
-            }
-        }
-    }
-    Ok(())
-}
-
-/// Packages of so many states each, with these pairs forbidden.
-pub fn world(
-    alloc: Global,
-    packages: u32,
-    states: u32,
-    pairs: &[(u32, u32, u32, u32)],
-) -> Result<Instance, GraphFault>
-    requires { 0 < states }
-{
-    let sizes = vec![in alloc; states; packages as usize]?;
-    let mut builder = InstanceBuilder::make(alloc, sizes.as_slice())?;
-    for &(p, i, q, j) in pairs {
-        if p != q && has_state(sizes.as_slice(), p, i) && has_state(sizes.as_slice(), q, j) {
-            builder.forbid_pair(p, i, q, j)?;
-        }
-    }
-    builder.finish(alloc)
-}
-
-fn has_state(sizes: &[u32], p: u32, i: u32) -> bool
-    ensures { IsTrue result ↔ ((p < length sizes.now) × (i < slice_index sizes.now p)) }
-{
-    (p as usize) < sizes.len() && i < sizes[p as usize]
-}
+use version_graph::{Domains, Instance, Trail};
 
 /// Closes after each choice of one state, and undoes it; how many states were taken out in all.
 pub fn rounds(instance: &Instance, domains: &mut Domains, trail: &mut Trail, times: u32) -> u64
@@ -220,13 +116,6 @@ fn choose(instance: &Instance, domains: &mut Domains, trail: &mut Trail, p: u32,
     taken
 }
 """
-WORLD = """use Rattle.std.proofs.Common.{◌≡◌}
-use Rattle.closure_bench.proofs.drive.world.Given as goal
-
-abbrev pub invariant-loop-p : goal.invariant-loop-p
-invariant-loop-p l = l.builder.sizes ≡ l.sizes.items
-"""
-
 ROUNDS = """use Rattle.version_graph.specs.Noted.{Holds}
 use Rattle.closure_bench.proofs.drive.rounds.Given as goal
 
@@ -237,31 +126,11 @@ abbrev pub invariant-loop-p : goal.invariant-loop-p
 invariant-loop-p l = Holds l.instance l.domains l.trail
 """
 
-
-GENERAL = """use Rattle.std.proofs.Common.{◌≡◌}
-use Rattle.closure_bench.proofs.drive.general.Given as goal
-
-abbrev pub invariant-loop-p : goal.invariant-loop-p
-invariant-loop-p l = l.builder.sizes ≡ l.sizes.items
-"""
-
-BLOCK = """use Rattle.std.proofs.Common.{◌≡◌}
-use Rattle.closure_bench.proofs.drive.forbid_block.Given as goal
-
-abbrev pub invariant-loop-i : goal.invariant-loop-i
-invariant-loop-i l = l.builder.sizes ≡ l.sizes
-
-abbrev pub invariant-loop-j : goal.invariant-loop-j
-invariant-loop-j l = l.builder.sizes ≡ l.sizes
-"""
-
 FILES = {
     "src/main.rt": MAIN,
     "src/drive.rt": DRIVE,
-    "proofs/drive/world/Invariants.antt": WORLD,
-    "proofs/drive/general/Invariants.antt": GENERAL,
-    "proofs/drive/forbid_block/Invariants.antt": BLOCK,
     "proofs/drive/rounds/Invariants.antt": ROUNDS,
+    **nets("closure_bench"),
 }
 
 

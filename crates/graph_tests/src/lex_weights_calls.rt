@@ -4,7 +4,7 @@ use std::test::Fail;
 
 const LIMIT: i64 = 1 << 40;
 
-fn weight(first: i64, second: i64, third: i64) -> Lex3 {
+pub(crate) fn weight(first: i64, second: i64, third: i64) -> Lex3 {
     Lex(Level(first), Lex(Level(second), Level(third)))
 }
 

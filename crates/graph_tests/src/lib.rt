@@ -9,6 +9,8 @@ mod graph_calls;
 #[cfg(test)]
 mod lex_weights_calls;
 #[cfg(test)]
+mod message_calls;
+#[cfg(test)]
 mod pruning_calls;
 #[cfg(test)]
 mod raising_calls;

@@ -18,6 +18,9 @@ added_zero a = omega (arith, ints)
 pub taken_added : (a b : ℤ) → (a +ℤ b) -ℤ b ≡ a
 taken_added a b = omega (arith, ints)
 
+pub added_taken : (a b : ℤ) → (a -ℤ b) +ℤ b ≡ a
+added_taken a b = omega (arith, ints)
+
 pub added_keeps_order : (a b c : ℤ) → int_cmp (a +ℤ c) (b +ℤ c) ≡ int_cmp a b
 added_keeps_order a b c = grind (arith, ints)
 

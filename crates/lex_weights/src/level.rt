@@ -1,7 +1,7 @@
 //! One level of a weight.
 ghost use Rattle.std.specs.Prelude.{◌≡◌, ◌+ℤ◌, ◌-ℤ◌, pos, IsTrue};
 ghost use Rattle.lex_weights.specs.Levels.{clipped, is_limit, IsWithin};
-ghost use Rattle.lex_weights.specs.LevelLaws.{added_comm, added_assoc, added_zero, taken_added, added_keeps_order, clipped_keeps_order, clipped_twice, clipped_inside, same_where_equal, zero_within, clipped_within, added_within, taken_within, within_more};
+ghost use Rattle.lex_weights.specs.LevelLaws.{added_comm, added_assoc, added_zero, taken_added, added_taken, added_keeps_order, clipped_keeps_order, clipped_twice, clipped_inside, same_where_equal, zero_within, clipped_within, added_within, taken_within, within_more};
 
 use crate::weight::Weight;
 
@@ -54,6 +54,8 @@ impl Weight for Level {
     ghost plus_none = { λ a i. record { 0 = added_zero a.0 i } };
 
     ghost minus_plus = { λ a b i. record { 0 = taken_added a.0 b.0 i } };
+
+    ghost plus_minus = { λ a b i. record { 0 = added_taken a.0 b.0 i } };
 
     ghost plus_keeps_order = { λ a b c. added_keeps_order a.0 b.0 c.0 };
 

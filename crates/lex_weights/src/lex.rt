@@ -2,7 +2,7 @@
 ghost use Rattle.std.specs.Prelude.{◌≡◌, ◌^◌, pos, ◌+ℤ◌, ◌-ℤ◌};
 ghost use Rattle.std.specs.Cmp.{tied_itself};
 ghost use Rattle.lex_weights.specs.Levels.{clipped, is_limit, IsWithin};
-ghost use Rattle.lex_weights.specs.LevelLaws.{added_comm, added_assoc, added_zero, taken_added, clipped_twice, clipped_inside, zero_within, clipped_within, added_within, taken_within, within_more};
+ghost use Rattle.lex_weights.specs.LevelLaws.{added_comm, added_assoc, added_zero, taken_added, added_taken, clipped_twice, clipped_inside, zero_within, clipped_within, added_within, taken_within, within_more};
 ghost use Rattle.lex_weights.specs.LexLaws.{rest, rest_twice, rest_inside, rest_within, none_below, lex_keeps_order, lex_clip_keeps_order, lex_same};
 
 use crate::level::Level;
@@ -55,6 +55,8 @@ impl<B: Weight> Weight for Lex<Level, B> {
     ghost plus_none = { λ a i. record { 0 = record { 0 = added_zero a.0.0 i }; 1 = B.plus_none a.1 i } };
 
     ghost minus_plus = { λ a b i. record { 0 = record { 0 = taken_added a.0.0 b.0.0 i }; 1 = B.minus_plus a.1 b.1 i } };
+
+    ghost plus_minus = { λ a b i. record { 0 = record { 0 = added_taken a.0.0 b.0.0 i }; 1 = B.plus_minus a.1 b.1 i } };
 
     ghost plus_keeps_order = { λ a b c. lex_keeps_order B.cmp B.plus B.plus_keeps_order a.0.0 b.0.0 c.0.0 a.1 b.1 c.1 };
 

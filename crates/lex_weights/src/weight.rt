@@ -3,7 +3,8 @@ ghost use Rattle.std.specs.Prelude.{◌≡◌, ◌+◌, ◌-◌, ◌^◌, ◌≤
 ghost use Rattle.std.specs.Ordering.{is_gt};
 ghost use Rattle.std.specs.declared.cmp.Ordering.TheVariants.{Equal};
 
-/// A weight: a commutative group with an order that addition keeps, and a clip that keeps the order too.
+/// A weight: a commutative group, in which `minus` takes off what `plus` adds and the other way round, with an
+/// order that addition keeps, and a clip that keeps the order too.
 /// A weight has levels, each a whole number. It is within n where each of its levels lies within plus or
 /// minus n. No call takes memory.
 pub trait Weight: Copy + Ord {
@@ -42,6 +43,8 @@ pub trait Weight: Copy + Ord {
     ghost plus_none: { (a : Self) → plus a none ≡ a };
 
     ghost minus_plus: { (a b : Self) → minus (plus a b) b ≡ a };
+
+    ghost plus_minus: { (a b : Self) → plus (minus a b) b ≡ a };
 
     ghost plus_keeps_order: { (a b c : Self) → Self.cmp (plus a c) (plus b c) ≡ Self.cmp a b };
 

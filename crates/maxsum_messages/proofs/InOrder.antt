@@ -16,7 +16,7 @@ is_less Equal e = cc
 is_less Greater e = cc
 
 module _ {W : Type 0} (cmp : W → W → Ordering) (total : IsTotalOrder cmp) (value : ℕ → W) where
-  stands : IsTotalOrder (standing cmp value)
+  pub stands : IsTotalOrder (standing cmp value)
   stands = then_total (back_total (on_total value total)) (back_total nat_cmp_total)
 
   tied : (r : Ordering) (i j : ℕ) → ordering_then r (nat_cmp j i) ≡ Equal → i ≡ j

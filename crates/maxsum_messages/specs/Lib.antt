@@ -7,3 +7,4 @@ pub mod Choice
 pub mod Kept
 pub mod Ranking
 pub mod Searched
+pub mod Laws

@@ -1,6 +1,6 @@
 -- The messages between neighbours: what each package hears from each of its neighbours about each of its states.
 -- (own rule, after Pkg's resolver)
-use Rattle.std.specs.Prelude.{◌≡◌, ℕ, ◌<◌, List, [], ◌∷◌, slice_index_or, ◌==◌, if◌then◌else◌}
+use Rattle.std.specs.Prelude.{◌≡◌, ℕ, ◌<◌, List, [], ◌∷◌, length, slice_index_or, ◌==◌, if◌then◌else◌}
 use Rattle.version_graph.specs.Graph.{Graph, packages, are_neighbours, IsListOf}
 
 pub record Post (W : Type 0) : Type 0 where
@@ -23,10 +23,11 @@ said_to m p = slice_index_or m.said p []
 abbrev pub message : {W : Type 0} → W → Post W → ℕ → ℕ → ℕ → W
 message none m q k j = slice_index_or (slice_index_or (said_to m q) k []) j none
 
--- the messages are those between the neighbours of the instance
+-- the messages are those between the neighbours of the instance, one from each to each state
 pub record IsPostFor {W : Type 0} (g : Graph) (m : Post W) : Type 0 where
   pub sizes : m.sizes ≡ g.sizes
   pub listed : (p : ℕ) → p < packages g → IsListOf (are_neighbours g p) (senders_of m p)
+  pub answered : (p : ℕ) → p < packages g → length (said_to m p) ≡ length (senders_of m p)
 
 -- every message is zero
 pub record IsSilent {W : Type 0} (none : W) (m : Post W) : Type 0 where

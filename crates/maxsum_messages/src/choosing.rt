@@ -9,6 +9,7 @@ ghost use Rattle.maxsum_messages.specs.Searched.{raised, is_skipped, leading, pa
 ghost use Rattle.maxsum_messages.specs.Kept.{AreAligned};
 
 use crate::fields::Fields;
+use crate::greatest::less;
 use crate::inbox::Inbox;
 use crate::order::is_before;
 use lex_weights::Weight;
@@ -111,7 +112,7 @@ fn difference<W: Weight>(inbox: &Inbox<W>, fields: &Fields<W>, p: u32, first: u3
 {
     let first = inbox.belief(fields, p, first);
     let second = inbox.belief(fields, p, second);
-    first.minus(second)
+    less(first, second)
 }
 
 /// The package with the greater lead; the first one on a tie.

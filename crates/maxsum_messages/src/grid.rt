@@ -77,7 +77,7 @@ impl<W: Weight> Grid<W> {
     }
 
     /// Makes every weight of the row r zero.
-    fn clear_row(&mut self, r: usize)
+    pub(crate) fn clear_row(&mut self, r: usize)
         requires { r < length self.old }
         ensures each { length self.new ≡ length self.old }
         ensures places { (q : ℕ) → length (slice_index_or self.new q []) ≡ length (slice_index_or self.old q []) }

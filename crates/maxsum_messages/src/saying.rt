@@ -1,7 +1,7 @@
 //! One message of a round.
-ghost use Rattle.std.specs.Prelude.{◌≡◌, ◌≢◌, ◌<◌, ◌≤◌, ◌^◌, ◌&&◌, [], ℕ, true, false, not, length, slice_index, slice_index_or, if◌then◌else◌};
+ghost use Rattle.std.specs.Prelude.{◌≡◌, ◌≢◌, ◌<◌, ◌≤◌, ◌^◌, ◌&&◌, ◌||◌, ◌==◌, [], ℕ, true, false, not, length, slice_index, slice_index_or, if◌then◌else◌};
 ghost use Rattle.version_graph.specs.Graph.{packages, states, is_forbidden};
-ghost use Rattle.version_graph.specs.Domain.{has, IsFor, row};
+ghost use Rattle.version_graph.specs.Domain.{has, size_of, IsFor, row};
 ghost use Rattle.version_graph.specs.Family.{IsStable, IsFilled};
 ghost use Rattle.maxsum_messages.specs.Field.{field, AreFieldsFor};
 ghost use Rattle.maxsum_messages.specs.Post.{senders_of, IsPostFor};
@@ -10,11 +10,11 @@ ghost use Rattle.maxsum_messages.specs.Round.{weight_for, IsMessage};
 ghost use Rattle.maxsum_messages.specs.Kept.{AreSenders, AreShaped, HasRoom};
 
 use crate::fields::Fields;
-use crate::greatest::{best_partner, best_state};
+use crate::greatest::{best_partner, best_state, less};
 use crate::grid::Grid;
 use crate::inbox::{Inbox, place_of};
 use lex_weights::Weight;
-use version_graph::{Domains, Instance};
+use version_graph::{Domains, Instance, one_state_is_left};
 
 /// Writes what each state of p weighs for q.
 fn weigh<W: Weight>(
@@ -102,7 +102,7 @@ fn lowered<W: Weight>(weight: W, top: W, inside: bool) -> W
     ensures small { W.is_within (2 ^ 40) result }
 {
     if inside {
-        weight.minus(top).clip()
+        less(weight, top).clip()
     } else {
         W::zero()
     }
@@ -144,8 +144,17 @@ pub(crate) struct Desk<W> {
     pub(crate) raw: Vec<W>,
 }
 
-/// Writes the message from p to q in the row k.
-pub(crate) fn say<W: Weight>(
+/// Whether one of the two packages has one state left.
+fn is_either_decided(domains: &Domains, p: u32, q: u32) -> bool
+    requires first { p < length domains.now }
+    requires second { q < length domains.now }
+    ensures { result ≡ (size_of domains.now p == 1 || size_of domains.now q == 1) }
+{
+    domains.size(p) == 1 || domains.size(q) == 1
+}
+
+/// Writes the message from p to q in the row k. Where one of them has one state left, it is zero at each state.
+fn say<W: Weight>(
     inbox: &Inbox<W>,
     instance: &Instance,
     fields: &Fields<W>,
@@ -176,6 +185,11 @@ pub(crate) fn say<W: Weight>(
     ensures said { IsMessage W.none W.plus W.minus W.clip W.cmp instance.now (has domains.now) (weight_for W.none W.plus fields.now inbox.now q p) p q (field W.none grid.new k) }
     ensures small { (j : ℕ) → j < states instance.now q → W.is_within (2 ^ 40) (field W.none grid.new k j) }
 {
+    one_state_is_left();
+    if is_either_decided(domains, p, q) {
+        grid.clear_row(k);
+        return;
+    }
     weigh(inbox, fields, p, q, instance.states(p), &mut desk.weights);
     gather(
         instance,

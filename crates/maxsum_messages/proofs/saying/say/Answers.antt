@@ -1,12 +1,14 @@
-use Rattle.std.proofs.Common.{◌≡◌, ◌∙◌, ◌^◌, ◌<◌, ◌&&◌, not, cond, ℕ, [], length, get_or, ap, subst, sym, arith, inl, inr}
+use Rattle.std.proofs.Common.{◌≡◌, ◌∙◌, ◌^◌, ◌-◌, ◌<◌, ◌&&◌, not, cond, ℕ, [], length, get_or, ap, subst, sym, arith, inl, inr}
 use Rattle.std.proofs.lemmas.Bool.{cases_lt}
 use Rattle.std.proofs.lemmas.List.{get_or_past}
 use Rattle.version_graph.specs.Graph.{is_forbidden, states}
-use Rattle.version_graph.specs.Domain.{has}
+use Rattle.version_graph.specs.Domain.{has, row}
 use Rattle.maxsum_messages.specs.Greatest.{IsGreatest}
 use Rattle.maxsum_messages.specs.Round.{weight_for}
 use Rattle.maxsum_messages.proofs.Best.{in-range, both-first, greatest-same}
 use Rattle.maxsum_messages.proofs.Rows.{cell}
+use Rattle.maxsum_messages.proofs.One.{own-off}
+use Rattle.maxsum_messages.proofs.Quiet.{one-left, quiet}
 use Rattle.maxsum_messages.proofs.saying.say.Goals as goal
 
 pub lower-requires-clause-top : goal.lower-requires-clause-top
@@ -48,3 +50,22 @@ returns-clause-said g c =
         | inr h ↦ get_or_past (get_or c.lower.new.grid c.args.k []) j none (omega (arith, h, long))
       ];
     }
+
+pub returns-then-is_either_decided-clause-said : goal.returns-then-is_either_decided-clause-said
+returns-then-is_either_decided-clause-said g c =
+    let none = g.W.Weight.none in
+    let plus = g.W.Weight.plus in
+    let minus = g.W.Weight.minus in
+    let d = c.args.domains.now in
+    let some = c.requires.filled.some c.args.q c.requires.second in
+    quiet g.W.Ord.cmp g.met.W.Ord.total none plus minus g.W.Weight.clip
+    (own-off none plus minus g.met.W.Weight.plus_comm g.met.W.Weight.plus_none g.met.W.Weight.minus_plus)
+    (g.met.W.Weight.clip_inside none (g.met.W.Weight.within_more 0 (2 ^ 40 - 1) none g.met.W.Weight.none_within (omega arith)))
+    c.args.instance.now (has d) (weight_for none plus c.args.fields.now c.args.inbox.now c.args.q c.args.p) c.args.p c.args.q c.requires.closed c.requires.first c.requires.apart
+    (one-left c.one_state_is_left.ensures d c.args.p c.args.q (sym c.is_either_decided.ensures ∙ c.if-is_either_decided.true))
+    (length (row d c.args.p)) (λ i t. in-range d c.args.p i t) some.0 some.1 (cell none c.clear_row.new.self c.args.k) c.clear_row.ensures.zero
+
+pub returns-then-is_either_decided-clause-small : goal.returns-then-is_either_decided-clause-small
+returns-then-is_either_decided-clause-small g c j h =
+    let none = g.W.Weight.none in
+    subst (g.W.Weight.is_within (2 ^ 40)) (sym (c.clear_row.ensures.zero j)) (g.met.W.Weight.within_more 0 (2 ^ 40) none g.met.W.Weight.none_within (omega arith))

@@ -30,3 +30,14 @@ invariant_of-result g c =
       summed = λ q i h l. added.zero q i ∙ sym (heard-silent none plus i (g.met.W.Weight.plus_none none) (get_or said q []) (λ k. c.in_ok-said.ensures.zero q k i));
       small = λ q k j. subst (g.W.Weight.is_within (2 ^ 40)) (sym (c.in_ok-said.ensures.zero q k j)) (g.met.W.Weight.within_more 0 (2 ^ 40) none g.met.W.Weight.none_within (omega arith));
     }
+
+pub returns-clause-made : goal.returns-clause-made
+returns-clause-made g c =
+    let rows = rows_of c.in_ok-senders.senders.items in
+    let said = c.in_ok-said.said.items in
+    let shaped = subst (λ xs. AreShaped xs rows said) c.as_slice.ensures.value (subst (λ vs. AreShaped c.as_slice.result.now (rows_of vs) said) c.as_slice-2.ensures.value c.in_ok-said.ensures.shaped) in
+    record {
+      sizes = c.in_ok-sizes.ensures;
+      listed = c.in_ok-senders.ensures.listed;
+      answered = λ p h. shaped.answered p (omega (arith, h, ap length c.in_ok-sizes.ensures));
+    }

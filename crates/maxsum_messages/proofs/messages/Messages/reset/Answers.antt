@@ -1,4 +1,4 @@
-use Rattle.std.proofs.Common.{◌∙◌, [], get_or, ap, subst, sym}
+use Rattle.std.proofs.Common.{◌∙◌, ℕ, List, [], length, get_or, ap, subst, sym, arith}
 use Rattle.version_graph.specs.Graph.{are_neighbours, IsListOf}
 use Rattle.maxsum_messages.specs.Post.{Post}
 use Rattle.maxsum_messages.proofs.messages.Messages.reset.Goals as goal
@@ -10,4 +10,9 @@ returns-clause-made g c graph made =
     record {
       sizes = sizes ∙ made.sizes;
       listed = λ p h. subst (λ xs. IsListOf (are_neighbours graph p) (get_or xs p [])) (sym senders) (made.listed p h);
+      answered = λ p h.
+          ap (λ (said : List (List (List _))). length (get_or said p [])) c.take.ensures.said
+          ∙ c.silence_again.ensures.rows p
+          ∙ c.self.invariant.shaped.answered p (omega (arith, h, ap (λ (m : Post _). length m.sizes) c.self.view_is, ap length made.sizes))
+          ∙ sym (ap (λ (xs : List (List ℕ)). length (get_or xs p [])) c.take.ensures.senders);
     }

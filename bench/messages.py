@@ -1,0 +1,372 @@
+#!/usr/bin/env python3
+"""Times rounds of messages beside one read of each pair's bit a round.
+
+Makes a program in a temporary folder that stands on copies of this repository's crates, builds it with `rt`,
+runs it, and prints one line for each measurement. Needs `rt` on the path and `/usr/bin/time`. Usage: bench/messages.py
+"""
+import shutil
+import tempfile
+
+from built import built, timed
+from nets import nets
+
+MAIN = r"""//! Makes an instance, closes its domains, and sends messages for some rounds or reads each pair's bit as often.
+#![tactic(auto)]
+
+mod nets;
+mod reading;
+mod talking;
+
+use anyhow::Result;
+use nets::{general, world};
+use reading::read_all;
+use std::env;
+use talking::talk;
+
+fn number(word: Option<String>) -> u32 {
+    match word {
+        Some(text) => text.as_str().parse::<u32>().unwrap_or(0),
+        None => 0,
+    }
+}
+
+fn main(rt: HostRuntime) -> Result<()> {
+    let alloc = rt.alloc();
+    let mut words = env::args(&rt)?;
+    let _name = words.next();
+    let rounds = number(words.next());
+    let reads = number(words.next());
+    let packages = number(words.next());
+    let states = number(words.next());
+    let roots = number(words.next());
+    if states == 0 {
+        return Ok(());
+    }
+    let mut pairs = Vec::new(alloc);
+    for word in words {
+        let code = number(Some(word));
+        let first = code / states / packages.max(1);
+        let second = code / states % packages.max(1);
+        pairs.push((first / states, first % states, second, code % states))?;
+    }
+    let made = if pairs.is_empty() {
+        general(alloc, packages, states)
+    } else {
+        world(alloc, packages, states, roots, pairs.as_slice())
+    };
+    let instance = match made {
+        Ok(instance) => instance,
+        Err(fault) => {
+            println!(rt; "{fault:?}")?;
+            return Ok(());
+        }
+    };
+    let chosen = talk(alloc, &instance, roots, rounds)?;
+    let allowed = read_all(&instance, reads);
+    println!(rt; "{chosen:?} {allowed}")?;
+    Ok(())
+}
+"""
+
+READING = r"""//! Reading whether each pair of states is allowed.
+ghost use Rattle.std.specs.Prelude.{◌≢◌, ◌<◌};
+ghost use Rattle.version_graph.specs.Graph.{packages};
+
+use version_graph::Instance;
+
+/// How many pairs are allowed, read so many times.
+pub fn read_all(instance: &Instance, times: u32) -> u64 {
+    let mut allowed: u64 = 0;
+    for _time in 0..times {
+        for p in 0..instance.packages() {
+            allowed = allowed.saturating_add(read_from(instance, p));
+        }
+    }
+    allowed
+}
+
+fn read_from(instance: &Instance, p: u32) -> u64
+    requires { p < packages instance.now }
+{
+    let mut allowed: u64 = 0;
+    let neighbours = instance.neighbours(p);
+    for k in 0..neighbours.len() {
+        if p < neighbours[k] {
+            allowed = allowed.saturating_add(read_pair(instance, p, neighbours[k]));
+        }
+    }
+    allowed
+}
+
+fn read_pair(instance: &Instance, p: u32, q: u32) -> u64
+    requires first { p < packages instance.now }
+    requires second { q < packages instance.now }
+    requires apart { p ≢ q }
+{
+    let mut allowed: u64 = 0;
+    for i in 0..instance.states(p) {
+        for j in 0..instance.states(q) {
+            if instance.allowed(p, i, q, j) {
+                allowed = allowed.saturating_add(1);
+            }
+        }
+    }
+    allowed
+}
+"""
+
+TALKING = r"""//! Messages over an instance whose domains are closed.
+ghost use Rattle.std.specs.Prelude.{◌≡◌, ◌<◌, ◌^◌, ℕ, IsTrue, IfOk, IfSome};
+ghost use Rattle.version_graph.specs.Domain.{has, IsFor};
+ghost use Rattle.version_graph.specs.Noted.{Holds, IsSettled};
+ghost use Rattle.maxsum_messages.specs.Field.{AreFieldsFor};
+ghost use Rattle.maxsum_messages.specs.Post.{IsPostFor};
+
+use graph_pruning::{Closed, close};
+use lex_weights::{Level, Lex, Lex3, Weight};
+use maxsum_messages::{Fields, Messages, Order, closure_is_stable};
+use std::alloc::{AllocError, Global};
+use version_graph::{Domains, Instance, Trail};
+
+fn small(first: u8, second: u8, third: u8) -> Lex3
+    ensures { ⟦<Lex3 as Weight>⟧.is_within (2 ^ 24) result }
+{
+    Lex(
+        Level(i64::from(first)),
+        Lex(Level(i64::from(second)), Level(i64::from(third))),
+    )
+}
+
+/// A state's number at the first level where the package is a root, else at the second.
+fn fields_of(alloc: Global, instance: &Instance, roots: u32) -> Result<Fields<Lex3>, AllocError>
+    ensures { IfOk result (λ fields. AreFieldsFor instance.now fields) }
+{
+    let mut fields = Fields::make(alloc, instance)?;
+    for p in 0..instance.packages() {
+        for i in 0..instance.states(p) {
+            let number = u8::try_from(i).unwrap_or(255);
+            let field = if p < roots { small(number, 0, 0) } else { small(0, number, 0) };
+            fields.set(p, i, field);
+        }
+    }
+    Ok(fields)
+}
+
+fn is_closed(instance: &Instance, domains: &mut Domains, trail: &mut Trail) -> bool
+    requires { Holds instance.now domains.old trail.old }
+    ensures made { IsFor instance.now domains.new }
+    ensures settled { IsTrue result → IsSettled instance.now (has domains.new) }
+{
+    closure_is_stable();
+    match close(instance, domains, trail) {
+        Closed::Stable => true,
+        Closed::Empty(_) => false,
+    }
+}
+
+fn closed(alloc: Global, instance: &Instance) -> Result<Option<Domains>, AllocError>
+    ensures made { IfOk result (λ found. IfSome found (λ domains. IsFor instance.now domains)) }
+    ensures settled { IfOk result (λ found. IfSome found (λ domains. IsSettled instance.now (has domains))) }
+{
+    let mut domains = Domains::full(alloc, instance)?;
+    let mut trail = Trail::make(alloc, instance)?;
+    if !is_closed(instance, &mut domains, &mut trail) {
+        return Ok(None);
+    }
+    Ok(Some(domains))
+}
+
+fn said(
+    alloc: Global,
+    instance: &Instance,
+    fields: &Fields<Lex3>,
+    domains: &Domains,
+    rounds: u32,
+) -> Result<Messages<Lex3>, AllocError>
+    requires fields { AreFieldsFor instance.now fields.now }
+    requires made { IsFor instance.now domains.now }
+    requires settled { IsSettled instance.now (has domains.now) }
+    ensures { IfOk result (λ messages. IsPostFor instance.now messages) }
+{
+    let mut messages = Messages::make(alloc, instance)?;
+    'rounds: for _ in 0..rounds {
+        messages.round(instance, fields, domains);
+    }
+    Ok(messages)
+}
+
+fn choice(
+    alloc: Global,
+    instance: &Instance,
+    fields: &Fields<Lex3>,
+    domains: &Domains,
+    messages: &Messages<Lex3>,
+) -> Result<Option<u32>, AllocError>
+    requires fields { AreFieldsFor instance.now fields.now }
+    requires made { IsFor instance.now domains.now }
+    requires messages { IsPostFor instance.now messages.now }
+{
+    let mut order = Order::make(alloc, instance)?;
+    let chosen = messages.choose(fields, domains, &mut order);
+    Ok(chosen)
+}
+
+/// The package that is chosen after so many rounds, the first so many packages being roots.
+pub fn talk(
+    alloc: Global,
+    instance: &Instance,
+    roots: u32,
+    rounds: u32,
+) -> Result<Option<u32>, AllocError> {
+    let fields = fields_of(alloc, instance, roots)?;
+    match closed(alloc, instance)? {
+        Some(domains) => {
+            let messages = said(alloc, instance, &fields, &domains, rounds)?;
+            choice(alloc, instance, &fields, &domains, &messages)
+        }
+        None => Ok(None),
+    }
+}
+"""
+
+PROOFS = {
+    "small/Answers.antt": """use Rattle.std.proofs.Common.{arith}
+use Rattle.std.proofs.lemmas.Int.{ints}
+use Rattle.messages_bench.proofs.talking.small.Goals as goal
+
+pub returns : goal.returns
+returns c = (
+  record { above = omega (arith, ints); below = omega (arith, ints) },
+  (
+    record { above = omega (arith, ints); below = omega (arith, ints) },
+    record { above = omega (arith, ints); below = omega (arith, ints) },
+  ),
+)
+""",
+    "fields_of/Invariants.antt": """use Rattle.maxsum_messages.specs.Field.{AreFieldsFor}
+use Rattle.messages_bench.proofs.talking.fields_of.Given as goal
+
+abbrev pub invariant-loop-p : goal.invariant-loop-p
+invariant-loop-p l = AreFieldsFor l.instance l.fields
+
+abbrev pub invariant-loop-i : goal.invariant-loop-i
+invariant-loop-i l = AreFieldsFor l.instance l.fields
+""",
+    "fields_of/Answers.antt": """use Rattle.std.proofs.Common.{◌∙◌, arith}
+use Rattle.messages_bench.proofs.talking.fields_of.Goals as goal
+
+pub set-requires-clause-known : goal.set-requires-clause-known
+set-requires-clause-known c = omega (arith, c.loop-i.invariant.each)
+
+pub set-requires-clause-state : goal.set-requires-clause-state
+set-requires-clause-state c = omega (arith, c.loop-i.invariant.wide c.loop-p.p (omega arith))
+
+pub loop-i-preserved : goal.loop-i-preserved
+loop-i-preserved c = record {
+  each = c.set.ensures.each ∙ c.loop-i.invariant.each;
+  wide = λ q h. c.set.ensures.wide q ∙ c.loop-i.invariant.wide q h;
+}
+""",
+    "is_closed/Answers.antt": """use Rattle.version_graph.specs.Domain.{has}
+use Rattle.messages_bench.proofs.talking.is_closed.Goals as goal
+
+pub returns-in-Stable-clause-settled : goal.returns-in-Stable-clause-settled
+returns-in-Stable-clause-settled c =
+    let answer = c.in-Stable.ensures.answer in
+    λ _. record {
+      stable = c.closure_is_stable.ensures c.args.instance.now (has c.args.domains.now) (has c.close.new.domains) answer.closure;
+      filled = answer.filled;
+    }
+""",
+    "said/Invariants.antt": """use Rattle.maxsum_messages.specs.Post.{IsPostFor}
+use Rattle.messages_bench.proofs.talking.said.Given as goal
+
+abbrev pub invariant-rounds : goal.invariant-rounds
+invariant-rounds l = IsPostFor l.instance l.messages
+""",
+    "choice/Answers.antt": """use Rattle.std.proofs.Common.{ℕ, List, ap, sym, subst, arith, length, get_or}
+use Rattle.maxsum_messages.specs.Kept.{AreAligned}
+use Rattle.messages_bench.proofs.talking.choice.Goals as goal
+
+pub choose-chosen-requires-clause-aligned : goal.choose-chosen-requires-clause-aligned
+choose-chosen-requires-clause-aligned c =
+    subst (λ (xs : List ℕ). AreAligned xs c.args.fields.now c.args.domains.now) (sym c.requires.messages.sizes)
+    (record {
+      fields = c.requires.fields.each;
+      field_places = c.requires.fields.wide;
+      domains = c.requires.made.each;
+      domain_places = c.requires.made.wide;
+    })
+
+pub choose-chosen-requires-clause-room : goal.choose-chosen-requires-clause-room
+choose-chosen-requires-clause-room c p h =
+    omega (arith, c.in_ok-order.ensures.room.room p (omega (arith, h, ap length c.requires.messages.sizes)), ap (λ (xs : List ℕ). get_or xs p 0) c.requires.messages.sizes)
+""",
+}
+
+FILES = {
+    "src/main.rt": MAIN,
+    "src/reading.rt": READING,
+    "src/talking.rt": TALKING,
+    **{f"proofs/talking/{name}": text for name, text in PROOFS.items()},
+    **nets("messages_bench"),
+}
+
+
+def generated(number):
+    """The forbidden pairs of 300 packages of nine states, as the generator of worlds draws them."""
+    state = number
+
+    def draw(count):
+        nonlocal state
+        state = (state * 6364136223846793005 + 1442695040888963407) % 2**64
+        return (state >> 33) % count
+
+    middle = [draw(8) for _ in range(300)]
+    needed = []
+    for k in range(300):
+        drawn = [k + 1 + draw(20) for _ in range(draw(4))]
+        needed.append(list(dict.fromkeys(d for d in drawn if d < 300)))
+    pairs = []
+    for k, d in ((k, d) for k in range(300) for d in needed[k]):
+        for i in range(8):
+            low = draw(middle[d] + 1)
+            high = middle[d] + draw(8 - middle[d])
+            pairs += [(k, i, d, j) for j in range(9) if not low <= j <= high]
+    return pairs
+
+
+def fewest(program, *words):
+    """The least seconds of three runs, and what was printed."""
+    runs = [timed(program, *words) for _ in range(3)]
+    return min(seconds for seconds, _, _ in runs), runs[0][2]
+
+
+def tell(program, title, times, packages, states, roots, codes=()):
+    """Prints what 8 rounds and 8 reads of all pairs take, from so many times as many."""
+    world = (packages, states, roots, *codes)
+    made, _ = fewest(program, 0, 0, *world)
+    said, chosen = fewest(program, 8 * times, 0, *world)
+    read, allowed = fewest(program, 0, 8 * times, *world)
+    rounds, reads = (said - made) / times, (read - made) / times
+    print(
+        f"{title}: 8 rounds in {rounds * 1e3:.2f} ms, each pair read 8 times in {reads * 1e3:.2f} ms, "
+        f"{reads / rounds:.2f} of it; {int(allowed.split()[-1]) // (8 * times)} allowed pairs, chosen {chosen.split()[0]}"
+    )
+
+
+def main():
+    top = tempfile.mkdtemp(prefix="messages-bench-")
+    try:
+        stands_on = ["maxsum_messages", "graph_pruning", "version_graph", "lex_weights", "anyhow"]
+        program = built(top, "messages_bench", stands_on, FILES)
+        tell(program, "500 packages of 45 states, like General", 1, 500, 45, 50)
+        tell(program, "500 packages of 12 states, like General", 10, 500, 12, 50)
+        codes = [((p * 9 + i) * 300 + q) * 9 + j for p, i, q, j in generated(1)]
+        tell(program, "300 packages of 9 states, as the generator draws them", 100, 300, 9, 10, codes)
+    finally:
+        shutil.rmtree(top)
+
+
+if __name__ == "__main__":
+    main()

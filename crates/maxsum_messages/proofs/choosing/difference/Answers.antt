@@ -1,6 +1,0 @@
-use Rattle.std.proofs.Common.{◌^◌, ◌+◌, arith}
-use Rattle.maxsum_messages.proofs.choosing.difference.Goals as goal
-
-pub minus-requires : goal.minus-requires
-minus-requires g c =
-    g.met.W.Weight.within_more (2 ^ 52 + 2 ^ 52) (2 ^ 53) _ (g.met.W.Weight.minus_within (2 ^ 52) (2 ^ 52) c.belief-first.result c.belief-second.result c.belief-first.ensures.small c.belief-second.ensures.small) (omega arith)
