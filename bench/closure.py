@@ -17,7 +17,7 @@ mod drive;
 use anyhow::Result;
 use graph_pruning::{Closed, close};
 use std::alloc::{AllocError, Global};
-use drive::{general, mesh_pairs, net_pairs, rounds, world};
+use drive::{falling_pairs, general, mesh_pairs, net_pairs, rounds, world};
 use std::env;
 use version_graph::{Domains, Instance, Trail};
 
@@ -53,10 +53,10 @@ fn main(rt: HostRuntime) -> Result<()> {
         println!(rt; "{closed}")?;
         return Ok(());
     }
-    let pairs = if mesh == 1 {
-        mesh_pairs(alloc, packages)?
-    } else {
-        net_pairs(alloc, packages, states)?
+    let pairs = match mesh {
+        1 => mesh_pairs(alloc, packages)?,
+        3 => falling_pairs(alloc, packages)?,
+        _ => net_pairs(alloc, packages, states)?,
     };
     let instance = match world(alloc, packages, states, pairs.as_slice()) {
         Ok(instance) => instance,
@@ -65,7 +65,7 @@ fn main(rt: HostRuntime) -> Result<()> {
             return Ok(());
         }
     };
-    if mesh == 1 {
+    if mesh == 1 || mesh == 3 {
         println!(rt; "finished")?;
         return Ok(());
     }
@@ -92,6 +92,17 @@ pub fn mesh_pairs(alloc: Global, packages: u32) -> Result<Pairs, AllocError> {
     let mut pairs = Vec::new(alloc);
     for q in 0..packages {
         for p in 0..q {
+            pairs.push((p, 0, q, 0))?;
+        }
+    }
+    Ok(pairs)
+}
+
+/// The first states of each two packages, the greatest packages first, so that each package's neighbours come falling.
+pub fn falling_pairs(alloc: Global, packages: u32) -> Result<Pairs, AllocError> {
+    let mut pairs = Vec::new(alloc);
+    for q in (0..packages).rev() {
+        for p in (0..q).rev() {
             pairs.push((p, 0, q, 0))?;
         }
     }
@@ -282,6 +293,9 @@ def main():
         for packages, states in [(1024, 40), (1024, 32), (4096, 2), (2, 32768)]:
             seconds, memory, printed = timed(program, 1, packages, states, 0)
             print(f"{packages} packages of {states} states: {printed} in {seconds:.2f} seconds, {memory} KiB at most")
+        for packages, states in [(2048, 2), (4096, 2)]:
+            seconds, memory, printed = timed(program, 3, packages, states, 0)
+            print(f"{packages} packages of {states} states, neighbours falling: {printed} in {seconds:.2f} seconds, {memory} KiB at most")
         seconds, memory, printed = timed(program, 2, 500, 45, 0)
         print(f"500 packages of 45 states: closed {printed} in {seconds:.2f} seconds, {memory} KiB at most")
     finally:
