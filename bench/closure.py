@@ -19,7 +19,7 @@ mod nets;
 use anyhow::Result;
 use drive::rounds;
 use graph_pruning::{Closed, close};
-use nets::{general, mesh_pairs, net_pairs, world};
+use nets::{falling_pairs, general, mesh_pairs, net_pairs, world};
 use std::alloc::{AllocError, Global};
 use std::env;
 use version_graph::{Domains, Instance, Trail};
@@ -56,10 +56,10 @@ fn main(rt: HostRuntime) -> Result<()> {
         println!(rt; "{closed}")?;
         return Ok(());
     }
-    let pairs = if mesh == 1 {
-        mesh_pairs(alloc, packages)?
-    } else {
-        net_pairs(alloc, packages, states)?
+    let pairs = match mesh {
+        1 => mesh_pairs(alloc, packages)?,
+        3 => falling_pairs(alloc, packages)?,
+        _ => net_pairs(alloc, packages, states)?,
     };
     let instance = match world(alloc, packages, states, 0, pairs.as_slice()) {
         Ok(instance) => instance,
@@ -68,7 +68,7 @@ fn main(rt: HostRuntime) -> Result<()> {
             return Ok(());
         }
     };
-    if mesh == 1 {
+    if mesh == 1 || mesh == 3 {
         println!(rt; "finished")?;
         return Ok(());
     }
@@ -151,6 +151,9 @@ def main():
         for packages, states in [(1024, 40), (1024, 32), (4096, 2), (2, 32768)]:
             seconds, memory, printed = timed(program, 1, packages, states, 0)
             print(f"{packages} packages of {states} states: {printed} in {seconds:.2f} seconds, {memory} KiB at most")
+        for packages, states in [(2048, 2), (4096, 2)]:
+            seconds, memory, printed = timed(program, 3, packages, states, 0)
+            print(f"{packages} packages of {states} states, neighbours falling: {printed} in {seconds:.2f} seconds, {memory} KiB at most")
         seconds, memory, printed = timed(program, 2, 500, 45, 0)
         print(f"500 packages of 45 states: closed {printed} in {seconds:.2f} seconds, {memory} KiB at most")
     finally:

@@ -19,6 +19,17 @@ pub fn mesh_pairs(alloc: Global, packages: u32) -> Result<Pairs, AllocError> {
     Ok(pairs)
 }
 
+/// The first states of each two packages, the greatest packages first, so that each package's neighbours come falling.
+pub fn falling_pairs(alloc: Global, packages: u32) -> Result<Pairs, AllocError> {
+    let mut pairs = Vec::new(alloc);
+    for q in (0..packages).rev() {
+        for p in (0..q).rev() {
+            pairs.push((p, 0, q, 0))?;
+        }
+    }
+    Ok(pairs)
+}
+
 /// Each package with the next one and with that half way round; a third of the states of each two.
 pub fn net_pairs(alloc: Global, packages: u32, states: u32) -> Result<Pairs, AllocError> {
     let mut pairs = Vec::new(alloc);

@@ -1,5 +1,5 @@
 -- What forbidding a state or a pair does to the parts of an instance that is being made.
-use Rattle.std.proofs.Common.{◌≡◌, ℕ, zero, suc, ◌<◌, ◌≤◌, Bool, true, false, cond, ◌&&◌, ◌||◌, List, [], ◌∷◌, ◌++◌, length, get_or, set, refl, sym, ◌∙◌, ap, arith, inl, inr, eqb, ltb, sum, replicate}
+use Rattle.std.proofs.Common.{◌≡◌, ℕ, zero, suc, ◌<◌, ◌≤◌, Bool, true, false, not, cond, ◌&&◌, ◌||◌, List, [], ◌∷◌, ◌++◌, length, get_or, set, refl, sym, subst, ◌∙◌, ap, arith, inl, inr, eqb, ltb, sum, replicate}
 use Rattle.std.proofs.Common.{Result, Ok, Err, OnOk, is_ok}
 use Rattle.std.proofs.lemmas.List.{length-replicate}
 use Rattle.std.specs.List.{list_any}
@@ -8,12 +8,14 @@ use Rattle.std.proofs.lemmas.Bool.{cases_lt, eqb-true, and_parts, or_cases, case
 use Rattle.std.proofs.lemmas.Bool.Decides.{eqb_tells}
 use Rattle.std.proofs.lemmas.List.{length-set, length-map, get_or_past}
 use Rattle.std.proofs.lemmas.List.Folds.{list_any-append}
-use Rattle.version_graph.specs.Graph.{Graph, is_barred, has_pair, is_forbidden, is_key, is_state, IsOpen}
-use Rattle.version_graph.specs.Stored.{rows_of, graph_of, IsKept}
+use Rattle.version_graph.specs.Graph.{Graph, is_barred, has_pair, is_forbidden, is_key, is_state, are_neighbours, neighbour_sum, SameGraph, IsListOf, IsOpen}
+use Rattle.version_graph.specs.Keys.{Key, is_in}
+use Rattle.version_graph.specs.Links.{Linked, link_at, number_at}
+use Rattle.version_graph.specs.Stored.{rows_of, graph_of, IsKept, IsStored}
 use Rattle.version_graph.specs.Domain.{has}
 use Rattle.version_graph.proofs.RowLemmas.{written, rows-written, row-written, has-written}
 use Rattle.version_graph.proofs.TrailLemmas.{or-flipped}
-use Rattle.version_graph.proofs.GraphLemmas.{Key, eqb-sym, forbidden-below, forbidden-above}
+use Rattle.version_graph.proofs.GraphLemmas.{forbidden-alike, neighbours-alike, sums-alike, eqb-sym, forbidden-below, forbidden-above}
 
 module _ {Z : Type 0} (sizes : List ℕ) (barred : List (Vec Bool Z)) (pairs : List Key) (k : IsKept (graph_of sizes barred pairs) barred)
     (p i : ℕ) (known : p < length sizes) (v w : Vec Bool Z) (at : v ≡ get_or barred p v) (new : w.items ≡ set v.items i true) where
@@ -53,6 +55,53 @@ pub same-barred : {Z : Type 0} (sizes : List ℕ) (barred : List (Vec Bool Z)) (
 unfolding is_barred
 same-barred sizes barred pairs more a b = refl
 
+-- pairs that are listed alike make the same
+module _ {Z : Type 0} (sizes : List ℕ) (barred : List (Vec Bool Z)) (pairs more : List Key) (same : (p i q j : ℕ) → is_in more p i q j ≡ is_in pairs p i q j) where
+  listed-alike : (p i q j : ℕ) → has_pair (graph_of sizes barred more) p i q j ≡ has_pair (graph_of sizes barred pairs) p i q j
+  unfolding has_pair
+  listed-alike = same
+
+  pub same-graph : SameGraph (graph_of sizes barred pairs) (graph_of sizes barred more)
+  unfolding is_barred
+  same-graph = record {
+    sizes = refl;
+    barred = λ p i. refl;
+    forbidden = forbidden-alike (graph_of sizes barred pairs) (graph_of sizes barred more) refl listed-alike;
+  }
+
+  pub same-sums : (f : ℕ → ℕ → ℕ) → neighbour_sum (graph_of sizes barred more) f ≡ neighbour_sum (graph_of sizes barred pairs) f
+  same-sums = sums-alike (graph_of sizes barred pairs) (graph_of sizes barred more) refl listed-alike
+
+  pub kept-alike : IsKept (graph_of sizes barred pairs) barred → IsKept (graph_of sizes barred more) barred
+  kept-alike k = record {
+    few = k.few;
+    small = k.small;
+    filled = k.filled;
+    each = k.each;
+    wide = k.wide;
+    listed = λ a b c d e. let l = k.listed a b c d (sym (listed-alike a b c d) ∙ e) in record { below = l.below; known = l.known; first_state = l.first_state; second_state = l.second_state };
+  }
+
+  pub stored-alike : (links : List Linked) (total : ℕ) → IsStored (graph_of sizes barred pairs) barred links total → IsStored (graph_of sizes barred more) barred links total
+  stored-alike links total s =
+      let g = graph_of sizes barred pairs in
+      let h = graph_of sizes barred more in
+      record {
+        kept = kept-alike s.kept;
+        each = s.each;
+        counted = s.counted;
+        lists = λ p known.
+            let near : are_neighbours g p ≡ are_neighbours h p = λ n q. sym (neighbours-alike g h refl listed-alike p q) n in
+            subst (λ test. IsListOf test (link_at links p).numbers) near (s.lists p known);
+        tables = λ p known.
+            let t = s.tables p known in
+            record {
+              rows = t.rows;
+              wide = t.wide;
+              bits = λ k i j a b c. t.bits k i j a b c ∙ ap not (sym (forbidden-alike g h refl listed-alike p i (number_at (link_at links p) k) j));
+            };
+      }
+
 -- a pair is named in its order
 pub key-turned : (p i q j a b c d : ℕ) → ((eqb p a && eqb i b) && (eqb q c && eqb j d)) ≡ is_key a b c d p i q j
 key-turned p i q j a b c d = λ k. (eqb-sym p a k && eqb-sym i b k) && (eqb-sym q c k && eqb-sym j d k)
@@ -62,13 +111,13 @@ or-none true = refl
 or-none false = refl
 
 -- the list has the pair besides
-pub pair-added : {Z : Type 0} (sizes : List ℕ) (barred : List (Vec Bool Z)) (pairs more : List Key) (p i q j : ℕ) → more ≡ pairs ++ (p, i, q, j) ∷ [] →
+pub pair-added : {Z : Type 0} (sizes : List ℕ) (barred : List (Vec Bool Z)) (pairs more : List Key) (p i q j : ℕ) → more ≡ pairs ++ (p, q, i, j) ∷ [] →
     (a b c d : ℕ) → has_pair (graph_of sizes barred more) a b c d ≡ (has_pair (graph_of sizes barred pairs) a b c d || is_key a b c d p i q j)
 unfolding has_pair
 pair-added sizes barred pairs more p i q j e a b c d =
-    ap (list_any (λ k. (eqb k.0 a && eqb k.1 b) && (eqb k.2 c && eqb k.3 d))) e
-    ∙ list_any-append (λ (k : Key). (eqb k.0 a && eqb k.1 b) && (eqb k.2 c && eqb k.3 d)) pairs ((p, i, q, j) ∷ [])
-    ∙ ap (λ x. list_any (λ (k : Key). (eqb k.0 a && eqb k.1 b) && (eqb k.2 c && eqb k.3 d)) pairs || x) (or-none _ ∙ key-turned p i q j a b c d)
+    ap (list_any (λ k. (eqb k.0 a && eqb k.2 b) && (eqb k.1 c && eqb k.3 d))) e
+    ∙ list_any-append (λ (k : Key). (eqb k.0 a && eqb k.2 b) && (eqb k.1 c && eqb k.3 d)) pairs ((p, q, i, j) ∷ [])
+    ∙ ap (λ x. list_any (λ (k : Key). (eqb k.0 a && eqb k.2 b) && (eqb k.1 c && eqb k.3 d)) pairs || x) (or-none _ ∙ key-turned p i q j a b c d)
 
 pub pair-kept : {Z : Type 0} (sizes : List ℕ) (barred : List (Vec Bool Z)) (pairs more : List Key) (p i q j : ℕ) → IsKept (graph_of sizes barred pairs) barred →
     p < q → q < length sizes → i < get_or sizes p 0 → j < get_or sizes q 0 →

@@ -1,7 +1,10 @@
 pub mod BuildLemmas
 pub mod FamilyLemmas
 pub mod GraphLemmas
+pub mod FlatLemmas
 pub mod ListLemmas
+pub mod NeedLemmas
+pub mod OrderLemmas
 pub mod RowLemmas
 pub mod TrailLemmas
 pub mod PartLemmas

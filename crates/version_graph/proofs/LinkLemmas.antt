@@ -1,26 +1,31 @@
 -- Tables of what is allowed with neighbours, and how pairs are forbidden in them.
 use Rattle.std.proofs.Common.{◌≡◌, ◌≢◌, ℕ, zero, suc, ◌+◌, ◌<◌, ◌≤◌, Bool, true, false, not, cond, ◌&&◌, ◌||◌, List, [], ◌∷◌, ◌++◌, length, get_or, set, map, take, replicate, refl, sym, ◌∙◌, ap, subst, arith, inl, inr, eqb, ltb, sum, MatchBool}
-use Rattle.std.specs.List.{list_any}
+use Rattle.std.specs.List.{list_any, flat_map, range_with_len}
+use Rattle.std.proofs.lemmas.List.Concat.{flat_map-cons}
+use Rattle.std.proofs.lemmas.Map.Views.{any-filter_same}
 use Rattle.std.specs.List.Sorted.{IsStrictlyIncreasing}
-use Rattle.std.proofs.lemmas.Bool.{cases_lt, cases_order, cases_Bool, eq-eqb, ne_eqb}
+use Rattle.std.proofs.lemmas.Bool.{or_left, or_right, cases_lt, cases_order, cases_Bool, eq-eqb, eqb-true, ne_eqb, lt-ltb, le-ltb, ltb-true, and_from, and_parts}
 use Rattle.std.proofs.lemmas.Bool.Decides.{eqb_tells}
-use Rattle.std.proofs.lemmas.List.{get_or_read, get_or_append_left, get_or-set_same, get_or-set_other, length-set, length-replicate, get_or-replicate}
-use Rattle.std.proofs.lemmas.List.Folds.{list_any_more}
+use Rattle.std.proofs.lemmas.List.{get_or_read, get_or_past, get_or_append_left, get_or-set_same, get_or-set_other, length-set, length-replicate, get_or-replicate}
+use Rattle.std.proofs.lemmas.List.Folds.{list_any_more, list_any-append, Any-from_list_any}
+use Rattle.std.proofs.lemmas.List.FromFn.{length-range_with_len, get_or-range_with_len}
 use Rattle.std.proofs.Math.Seq.{get_or-append_seam}
 use Rattle.std.proofs.lemmas.Grind.{get_or_default_zero}
 use Rattle.std.proofs.lemmas.Map.Keys.{below_from_sorted, sorted_from_strictly_increasing}
 use Rattle.bit_rows.specs.Rows.{row_at, truth_at}
 use Rattle.std.specs.declared.vec.Vec.{Vec}
 use Rattle.version_graph.specs.Graph.{Graph, packages, states, has_pair, is_forbidden, is_key, are_neighbours, IsListOf}
-use Rattle.version_graph.specs.Stored.{includes, pair_at, IsKept, IsStored, AreNeighbourRows}
+use Rattle.version_graph.specs.Keys.{Key, pair_at, is_in, bare, every_key}
+use Rattle.version_graph.specs.Stored.{graph_of, pairs_in, includes, IsKept, IsStored, AreNeighbourRows}
 use Rattle.version_graph.specs.Family.{Meets, AreAlike}
 use Rattle.version_graph.specs.Domain.{Rows, row, has}
 use Rattle.bit_rows.specs.Rows.{any_both, agree_under}
 use Rattle.bit_rows.proofs.RowLemmas.{any_some, any_from, agree_read, agree_from}
 use Rattle.version_graph.proofs.RowLemmas.{has_known}
-use Rattle.version_graph.specs.Links.{Table, Linked, IsLinked, number_at, table_at, allows_at, IsInTable, SameShape, Forbids, IsFree, unlinked, link_at, IsLinkOf, CanForbid, ForbidsAll, ForbidsOf}
-use Rattle.version_graph.proofs.GraphLemmas.{Key, Contains_from_includes, includes_at, includes-listed, pair-listed, between-from, neighbours_from_forbidden}
+use Rattle.version_graph.specs.Links.{Table, Linked, IsLinked, number_at, table_at, allows_at, is_cleared, forbids_in, together_in, IsInTable, SameShape, Forbids, IsFree, unlinked, link_at, IsLinkOf, CanForbid, ForbidsAll, ForbidsOf}
+use Rattle.version_graph.proofs.GraphLemmas.{both_true, IsOfPairs, of-pairs, in_range, forbidden-below, Contains_from_includes, includes_at, includes-listed, pair-listed, between-from, neighbours_from_forbidden}
 use Rattle.version_graph.proofs.BuildLemmas.{forbidden-added, key-turned}
+use Rattle.version_graph.proofs.PartLemmas.{one_le_sum}
 
 -- ---- the place of a neighbour
 
@@ -242,13 +247,12 @@ can_still old new each shape p i q j c = record {
   back = λ k. in_table_still (link_at old q) (link_at new q) (shape q) k j i p (c.back k);
 }
 
--- a graph of pairs alone
-abbrev pub bare : List Key → Graph
-bare pairs = record { sizes = []; barred = []; pairs = pairs }
-
-pub bare-forbidden : (g : Graph) (a b c d : ℕ) → is_forbidden (bare g.pairs) a b c d ≡ is_forbidden g a b c d
+pub bare-forbidden : (g : Graph) (pairs : List Key) → IsOfPairs g pairs → (a b c d : ℕ) → is_forbidden (bare pairs) a b c d ≡ is_forbidden g a b c d
 unfolding is_forbidden has_pair
-bare-forbidden g a b c d = refl
+bare-forbidden g pairs o a b c d =
+    let one = sym (o.told a b c d) in
+    let two = sym (o.told c d a b) in
+    λ n. cond (ltb a c) (one n) (two n)
 
 none-forbidden : (a b c d : ℕ) → is_forbidden (bare []) a b c d ≡ false
 unfolding is_forbidden has_pair
@@ -259,12 +263,12 @@ none-forbidden a b c d = same (ltb a c)
     same false = refl
 
 one-more : (pairs : List Key) (n a b c d : ℕ) → n < length pairs →
-    has_pair (bare (take (n + 1) pairs)) a b c d ≡ (has_pair (bare (take n pairs)) a b c d || is_key a b c d (pair_at pairs n).0 (pair_at pairs n).1 (pair_at pairs n).2 (pair_at pairs n).3)
+    has_pair (bare (take (n + 1) pairs)) a b c d ≡ (has_pair (bare (take n pairs)) a b c d || is_key a b c d (pair_at pairs n).0 (pair_at pairs n).2 (pair_at pairs n).1 (pair_at pairs n).3)
 unfolding has_pair
 one-more pairs n a b c d h =
-    list_any_more (λ (k : Key). (eqb k.0 a && eqb k.1 b) && (eqb k.2 c && eqb k.3 d)) pairs n (0, 0, 0, 0) h
-    ∙ ap (λ x. list_any (λ (k : Key). (eqb k.0 a && eqb k.1 b) && (eqb k.2 c && eqb k.3 d)) (take n pairs) || x)
-    (key-turned (pair_at pairs n).0 (pair_at pairs n).1 (pair_at pairs n).2 (pair_at pairs n).3 a b c d)
+    list_any_more (λ (k : Key). (eqb k.0 a && eqb k.2 b) && (eqb k.1 c && eqb k.3 d)) pairs n (0, 0, 0, 0) h
+    ∙ ap (λ x. list_any (λ (k : Key). (eqb k.0 a && eqb k.2 b) && (eqb k.1 c && eqb k.3 d)) (take n pairs) || x)
+    (key-turned (pair_at pairs n).0 (pair_at pairs n).2 (pair_at pairs n).1 (pair_at pairs n).3 a b c d)
 
 regrouped : (e w y z : Bool) → (e && (w && (y && z))) ≡ ((e && y) && (w && z))
 regrouped true true true z = refl
@@ -286,16 +290,16 @@ forbids_start links = record {
   allows = λ p k i j h. keeps_all (allows_at (link_at links p) k i j) _ (none-forbidden p i (number_at (link_at links p) k) j);
 }
 
-pub forbids_more : (a b c d : List Linked) (pairs : List Key) (n : ℕ) → n < length pairs → ForbidsAll a b (take n pairs) → (pair_at pairs n).0 < (pair_at pairs n).2 →
-    ForbidsOf b c (pair_at pairs n).0 (pair_at pairs n).1 (pair_at pairs n).2 (pair_at pairs n).3 →
-    ForbidsOf c d (pair_at pairs n).2 (pair_at pairs n).3 (pair_at pairs n).0 (pair_at pairs n).1 → ForbidsAll a d (take (n + 1) pairs)
+pub forbids_more : (a b c d : List Linked) (pairs : List Key) (n : ℕ) → n < length pairs → ForbidsAll a b (take n pairs) → (pair_at pairs n).0 < (pair_at pairs n).1 →
+    ForbidsOf b c (pair_at pairs n).0 (pair_at pairs n).2 (pair_at pairs n).1 (pair_at pairs n).3 →
+    ForbidsOf c d (pair_at pairs n).1 (pair_at pairs n).3 (pair_at pairs n).0 (pair_at pairs n).2 → ForbidsAll a d (take (n + 1) pairs)
 forbids_more a b c d pairs n h all below one two = record {
   each = two.each ∙ one.each ∙ all.each;
   shape = λ x. shape-on (link_at a x) (link_at b x) (link_at d x) (all.shape x) (shape-on (link_at b x) (link_at c x) (link_at d x) (one.shape x) (two.shape x));
   allows = λ x k y z l.
       let p = (pair_at pairs n).0 in
-      let i = (pair_at pairs n).1 in
-      let q = (pair_at pairs n).2 in
+      let i = (pair_at pairs n).2 in
+      let q = (pair_at pairs n).1 in
       let j = (pair_at pairs n).3 in
       let number = number_at (link_at a x) k in
       let b_same : number_at (link_at b x) k ≡ number = ap (λ xs. get_or xs k 0) (all.shape x).numbers in
@@ -329,7 +333,7 @@ links_more links new y n P e long old here p h =
 
 -- ---- the whole instance
 
-module _ {Z : Type 0} (g : Graph) (barred : List (Vec Bool Z)) (kept : IsKept g barred) (rows : List (List ℕ)) (near : AreNeighbourRows g rows)
+module _ {Z : Type 0} (g : Graph) (barred : List (Vec Bool Z)) (pairs : List Key) (of : IsOfPairs g pairs) (kept : IsKept g barred) (rows : List (List ℕ)) (near : AreNeighbourRows g rows)
     (links : List Linked) (each : length links ≡ length rows)
     (numbers : (p : ℕ) → p < length rows → (link_at links p).numbers ≡ get_or rows p [])
     (free : (p : ℕ) → p < length rows → IsFree (link_at links p) (get_or g.sizes p 0) g.sizes) where
@@ -341,13 +345,13 @@ module _ {Z : Type 0} (g : Graph) (barred : List (Vec Bool Z)) (kept : IsKept g 
         place = omega (arith, second, f.wide k i h first, ap (states g) e);
       }
 
-  pub can_forbid : (n : ℕ) → n < length g.pairs → CanForbid links (pair_at g.pairs n).0 (pair_at g.pairs n).1 (pair_at g.pairs n).2 (pair_at g.pairs n).3
+  pub can_forbid : (n : ℕ) → n < length pairs → CanForbid links (pair_at pairs n).0 (pair_at pairs n).2 (pair_at pairs n).1 (pair_at pairs n).3
   can_forbid n h =
-      let l = pair-listed g barred kept n h in
-      let p = (pair_at g.pairs n).0 in
-      let i = (pair_at g.pairs n).1 in
-      let q = (pair_at g.pairs n).2 in
-      let j = (pair_at g.pairs n).3 in
+      let l = pair-listed g barred pairs of kept n h in
+      let p = (pair_at pairs n).0 in
+      let q = (pair_at pairs n).1 in
+      let i = (pair_at pairs n).2 in
+      let j = (pair_at pairs n).3 in
       let known : p < packages g = omega (arith, l.below, l.known) in
       record {
         first = omega (arith, known, each, near.each);
@@ -357,7 +361,7 @@ module _ {Z : Type 0} (g : Graph) (barred : List (Vec Bool Z)) (kept : IsKept g 
         back = fits q j p i l.known l.second_state l.first_state;
       }
 
-  pub stored_from : (new : List Linked) (total : ℕ) → ForbidsAll links new g.pairs → total ≡ sum g.sizes → IsStored g barred new total
+  pub stored_from : (new : List Linked) (total : ℕ) → ForbidsAll links new pairs → total ≡ sum g.sizes → IsStored g barred new total
   stored_from new total all counted = record {
     kept = kept;
     each = all.each ∙ each ∙ near.each;
@@ -374,8 +378,8 @@ module _ {Z : Type 0} (g : Graph) (barred : List (Vec Bool Z)) (kept : IsKept g 
               let old : k < length (link_at links p).numbers = omega (arith, h, ap length s.numbers) in
               let same : number_at (link_at new p) k ≡ number_at (link_at links p) k = ap (λ xs. get_or xs k 0) s.numbers in
               all.allows p k i j old
-              ∙ ap (λ v. v && not (is_forbidden (bare g.pairs) p i (number_at (link_at links p) k) j)) (f.free k i j old l (omega (arith, m, ap (states g) same)))
-              ∙ ap not (bare-forbidden g p i (number_at (link_at links p) k) j)
+              ∙ ap (λ v. v && not (is_forbidden (bare pairs) p i (number_at (link_at links p) k) j)) (f.free k i j old l (omega (arith, m, ap (states g) same)))
+              ∙ ap not (bare-forbidden g pairs of p i (number_at (link_at links p) k) j)
               ∙ ap (λ n. not (is_forbidden g p i n j)) (sym same);
         };
   }
@@ -489,3 +493,113 @@ module _ {Z : Type 0} (g : Graph) (barred : List (Vec Bool Z)) (links : List Lin
             link_bits i q n h inside k.0 k.1 k.2 ∙ ap not (alike.alike n there) ∙ sym (link_bits j q n m inside k.0 k.1 k.2)) in
             let no = some k.0 k.1 k.2 in absurd (cc)
       ]
+
+-- ---- the instance that the tables tell
+
+not_not : (a b : Bool) → a ≡ not b → not a ≡ true → b ≡ true
+not_not a true e f = refl
+not_not a false e f = absurd (cc)
+
+module _ {Z : Type 0} (g : Graph) (barred : List (Vec Bool Z)) (links : List Linked) (total : ℕ) (stored : IsStored g barred links total) where
+  has_tables : (p k : ℕ) → k < length (link_at links p).numbers → p < packages g
+  has_tables p k h =
+      elim (cases_lt p (packages g)) [
+        | inl l ↦ l
+        | inr l ↦ absurd (omega (arith, h, ap (λ (x : Linked). length x.numbers) (get_or_past links p unlinked (omega (arith, l, stored.each)))))
+      ]
+
+  told-there : (p i q j : ℕ) → forbids_in (link_at links p) i q j ≡ true → is_forbidden g p i q j ≡ true
+  told-there p i q j e =
+      let l = link_at links p in
+      let n = length l.numbers in
+      let long = length-range_with_len 0 n in
+      let a = Any-from_list_any (λ k. eqb (number_at l k) q && is_cleared (table_at l k) i j) (range_with_len 0 n) e in
+      let k = a.1 in
+      let at = get_or-range_with_len 0 n a.0 a.1 (omega (arith, a.2, long)) in
+      let below : k < n = omega (arith, at, a.3, a.2, long) in
+      let parts = and_parts (eqb (number_at l k) q) _ a.4 in
+      let more = and_parts (ltb i (length (table_at l k))) _ parts.1 in
+      let rest = and_parts (ltb j (length (row_at (table_at l k) i))) _ more.1 in
+      let tables = stored.tables p (has_tables p k below) in
+      let first : i < states g p = omega (arith, ltb-true _ _ more.0, tables.rows k below) in
+      let second : j < states g (number_at l k) = omega (arith, ltb-true _ _ rest.0, tables.wide k i below first) in
+      subst (λ m. is_forbidden g p i m j ≡ true) (eqb-true _ _ parts.0)
+      (not_not (allows_at l k i j) (is_forbidden g p i (number_at l k) j) (tables.bits k i j below first second) rest.1)
+
+  there-told : (p i q j : ℕ) → is_forbidden g p i q j ≡ true → forbids_in (link_at links p) i q j ≡ true
+  there-told p i q j e =
+      let l = link_at links p in
+      let b = between-from g barred stored.kept p i q j e in
+      let c = (stored.lists p b.first).whole q (neighbours_from_forbidden g p i q j b e) in
+      let k = c.0 in
+      let below = c.1 in
+      let here : number_at l k ≡ q = sym (get_or_default_zero l.numbers c.0 q c.1) ∙ c.2 in
+      let tables = stored.tables p b.first in
+      let first : i < length (table_at l k) = omega (arith, b.first_state, tables.rows k below) in
+      let second : j < states g (number_at l k) = omega (arith, b.second_state, ap (states g) here) in
+      let place : j < length (row_at (table_at l k) i) = omega (arith, second, tables.wide k i below b.first_state) in
+      let away : allows_at l k i j ≡ false = tables.bits k i j below b.first_state second ∙ ap not (ap (λ m. is_forbidden g p i m j) here ∙ e) in
+      in_range (λ m. eqb (number_at l m) q && is_cleared (table_at l m) i j) (length l.numbers) k below
+      (and_from _ _ (eq-eqb _ _ here) (and_from _ _ (lt-ltb _ _ first) (and_from _ _ (lt-ltb _ _ place) (ap not away))))
+
+  told-at : (p i q j : ℕ) → together_in links p i q j ≡ has_pair g p i q j
+  unfolding together_in
+  told-at p i q j =
+      elim (cases_lt p q) [
+        | inl h ↦ ap (λ b. b && forbids_in (link_at links p) i q j) (lt-ltb p q h) ∙ both_true _ _ (told-there p i q j) (there-told p i q j) ∙ forbidden-below g p i q j h
+        | inr h ↦ ap (λ b. b && forbids_in (link_at links p) i q j) (le-ltb p q h) ∙ elim (cases_Bool (has_pair g p i q j)) [
+          | inr f ↦ sym f
+          | inl t ↦ absurd (omega (arith, (stored.kept.listed p i q j t).below, h))
+        ]
+      ]
+
+-- every pair is one of all pairs
+any_flat : {X A : Type 0} (t : A → Bool) (f : X → List A) (xs : List X) (k : ℕ) (d : X) → k < length xs → list_any t (f (get_or xs k d)) ≡ true → list_any t (flat_map f xs) ≡ true
+any_flat t f [] k d h e = absurd (omega (arith, h))
+any_flat t f (x ∷ xs) zero d h e = ap (list_any t) (flat_map-cons f x xs) ∙ list_any-append t (f x) (flat_map f xs) ∙ or_left _ _ e
+any_flat t f (x ∷ xs) (suc k) d h e = ap (list_any t) (flat_map-cons f x xs) ∙ list_any-append t (f x) (flat_map f xs) ∙ or_right _ _ (any_flat t f xs k d (omega (arith, h)) e)
+
+any_below : {A : Type 0} (t : A → Bool) (f : ℕ → List A) (n k : ℕ) → k < n → list_any t (f k) ≡ true → list_any t (flat_map f (range_with_len 0 n)) ≡ true
+any_below t f n k h e =
+    any_flat t f (range_with_len 0 n) k k (omega (arith, h, length-range_with_len 0 n))
+    (ap (λ x. list_any t (f x)) (get_or-range_with_len 0 n k k h ∙ omega arith) ∙ e)
+
+every-key : (n w p i q j : ℕ) → p < n → q < n → i < w → j < w → is_in (every_key n w) p i q j ≡ true
+unfolding every_key
+every-key n w p i q j first second low high =
+    let t : Key → Bool = λ k. (eqb k.0 p && eqb k.2 i) && (eqb k.1 q && eqb k.3 j) in
+    any_below t (λ a. flat_map (λ b. flat_map (λ c. flat_map (λ d. (a, b, c, d) ∷ []) (range_with_len 0 w)) (range_with_len 0 w)) (range_with_len 0 n)) n p first
+    (any_below t (λ b. flat_map (λ c. flat_map (λ d. (p, b, c, d) ∷ []) (range_with_len 0 w)) (range_with_len 0 w)) n q second
+    (any_below t (λ c. flat_map (λ d. (p, q, c, d) ∷ []) (range_with_len 0 w)) w i low
+    (any_below t (λ d. (p, q, i, d) ∷ []) w j high
+    (or_left _ _ (and_from _ _ (and_from _ _ (eq-eqb p p refl) (eq-eqb i i refl)) (and_from _ _ (eq-eqb q q refl) (eq-eqb j j refl)))))))
+
+-- the pairs of the tables are those that were listed
+pub told-pairs : {Z : Type 0} (sizes : List ℕ) (barred : List (Vec Bool Z)) (pairs : List Key) (links : List Linked) (total : ℕ) →
+    IsStored (graph_of sizes barred pairs) barred links total → (p i q j : ℕ) → is_in (pairs_in sizes links) p i q j ≡ is_in pairs p i q j
+unfolding pairs_in has_pair
+told-pairs sizes barred pairs links total stored p i q j =
+    let g = graph_of sizes barred pairs in
+    let all = every_key (length links) (sum sizes) in
+    let t : Key → Bool = λ k. (eqb k.0 p && eqb k.2 i) && (eqb k.1 q && eqb k.3 j) in
+    let one : (k : Key) → t k ≡ true → together_in links k.0 k.2 k.1 k.3 ≡ together_in links p i q j = λ k e.
+    let parts = and_parts (eqb k.0 p && eqb k.2 i) (eqb k.1 q && eqb k.3 j) e in
+    let a = and_parts (eqb k.0 p) (eqb k.2 i) parts.0 in
+    let b = and_parts (eqb k.1 q) (eqb k.3 j) parts.1 in
+    let a0 = eqb-true _ _ a.0 in
+    let a1 = eqb-true _ _ a.1 in
+    let b0 = eqb-true _ _ b.0 in
+    let b1 = eqb-true _ _ b.1 in
+    λ n. together_in links (a0 n) (a1 n) (b0 n) (b1 n) in
+    let told : together_in links p i q j ≡ is_in pairs p i q j = told-at g barred links total stored p i q j in
+    any-filter_same t (λ k. together_in links k.0 k.2 k.1 k.3) (together_in links p i q j) one all
+    ∙ ap (λ b. b && list_any t all) told
+    ∙ elim (cases_Bool (is_in pairs p i q j)) [
+      | inr f ↦ ap (λ b. b && list_any t all) f ∙ sym f
+      | inl y ↦
+          let l = stored.kept.listed p i q j y in
+          let inside : is_in all p i q j ≡ true =
+          every-key (length links) (sum sizes) p i q j (omega (arith, l.below, l.known, stored.each)) (omega (arith, l.known, stored.each))
+          (omega (arith, l.first_state, one_le_sum sizes p (omega (arith, l.below, l.known)))) (omega (arith, l.second_state, one_le_sum sizes q l.known)) in
+          ap (λ b. b && list_any t all) y ∙ inside ∙ sym y
+    ]

@@ -1,12 +1,14 @@
 -- Some packages and states of an instance: they are few, and what is copied of them.
-use Rattle.std.proofs.Common.{◌≡◌, ◌≢◌, ℕ, zero, suc, ◌+◌, ◌<◌, ◌≤◌, Bool, true, false, ◌||◌, ◌&&◌, not, Result, Ok, Err, IfOk, List, [], ◌∷◌, length, get_or, drop, sum, refl, sym, ◌∙◌, subst, ap, arith, inl, inr}
+use Rattle.std.proofs.Common.{◌≡◌, ◌≢◌, ℕ, zero, suc, ◌+◌, ◌<◌, ◌≤◌, Bool, true, false, ◌||◌, ◌&&◌, not, Result, Ok, Err, IfOk, Option, Some, None, MatchOption, List, [], ◌∷◌, length, get_or, set, replicate, drop, sum, refl, sym, ◌∙◌, subst, ap, arith, inl, inr}
 use Rattle.std.proofs.lemmas.Bool.{cases_lt, cases_order, or_cases, and_parts, eqb-true}
+use Rattle.std.proofs.lemmas.Bool.Decides.{eqb_tells}
+use Rattle.std.proofs.lemmas.List.{length-set, length-replicate, get_or-replicate, get_or-set_same, get_or-set_other}
 use Rattle.std.proofs.lemmas.List.Sums.{sum_by-cons}
 use Rattle.std.specs.List.Sorted.{IsStrictlyIncreasing}
-use Rattle.version_graph.specs.Graph.{Graph, states, is_barred, is_offered, is_forbidden, is_pair, is_state, IsGraph, IsOpen}
+use Rattle.version_graph.specs.Graph.{Graph, packages, states, is_barred, is_offered, is_forbidden, is_pair, is_state, SameGraph, IsGraph, IsOpen}
 use Rattle.version_graph.specs.Part.{Part, package_of, states_of, state_of, IsPartOf, IsRestrictedTo}
-use Rattle.version_graph.specs.Copied.{is_barred_at, is_forbidden_at, HasPlaces, IsCopied, Copies, IsCopiedTo}
-use Rattle.version_graph.proofs.GraphLemmas.{forbidden-below, forbidden-above, offered-from_barred}
+use Rattle.version_graph.specs.Copied.{is_barred_at, is_forbidden_at, HasPlaces, ArePlaces, IsCopied, Copies, IsCopiedTo}
+use Rattle.version_graph.proofs.GraphLemmas.{both_true, forbidden-below, forbidden-above, offered-from_barred}
 
 -- ---- the part is no greater than the instance
 
@@ -90,6 +92,49 @@ forbidden-turned g p i q j apart =
         | inr l ↦ forbidden-above g p i q j (omega arith) ∙ sym (forbidden-below g q j p i l)
       ]
     ]
+
+-- two places of one package are one place
+pub place_is : (g : Graph) (m : Part) → IsPartOf g m → (k n : ℕ) → k < length m → n < length m → package_of m k ≡ package_of m n → k ≡ n
+place_is g m part k n first second e =
+    elim (cases_order k n) [
+      | inl same ↦ same
+      | inr o ↦ elim o [
+        | inl l ↦ absurd (omega (arith, part.rising k n l second, e))
+        | inr l ↦ absurd (omega (arith, part.rising n k l first, e))
+      ]
+    ]
+
+-- no place is known yet
+pub places_none : (g : Graph) (m : Part) → ArePlaces g m 0 (replicate (packages g) None)
+places_none g m = record {
+  each = length-replicate (packages g) None;
+  at = λ q h.
+      subst (λ (o : Option ℕ). MatchOption o ((k : ℕ) → k < 0 → package_of m k ≢ q) (λ k. (k < 0) × (package_of m k ≡ q)))
+      (sym (get_or-replicate (packages g) q None None h)) (λ k l. absurd (omega (arith, l)));
+}
+
+place_still : (m : Part) (q n : ℕ) → package_of m n ≢ q → (o : Option ℕ) → MatchOption o ((k : ℕ) → k < n → package_of m k ≢ q) (λ k. (k < n) × (package_of m k ≡ q)) →
+    MatchOption o ((k : ℕ) → k < n + 1 → package_of m k ≢ q) (λ k. (k < n + 1) × (package_of m k ≡ q))
+place_still m q n apart None f = λ k h. elim (cases_lt k n) [
+  | inl l ↦ f k l
+  | inr l ↦ let same : k ≡ n = omega (arith, h, l) in λ e. apart (ap (package_of m) (sym same) ∙ e)
+]
+place_still m q n apart (Some x) f = (omega (arith, f.0), f.1)
+
+-- the place of one more package
+pub places_more : (g : Graph) (m : Part) (n : ℕ) (places : List (Option ℕ)) → package_of m n < packages g → ArePlaces g m n places →
+    ArePlaces g m (n + 1) (set places (package_of m n) (Some n))
+places_more g m n places known p = record {
+  each = length-set places (package_of m n) (Some n) ∙ p.each;
+  at = λ q h.
+      let P : Option ℕ → Type 0 = λ o. MatchOption o ((k : ℕ) → k < n + 1 → package_of m k ≢ q) (λ k. (k < n + 1) × (package_of m k ≡ q)) in
+      elim (eqb_tells q (package_of m n)) [
+        | inl s ↦
+            subst P (sym (ap (λ x. get_or (set places (package_of m n) (Some n)) x None) s.1 ∙ get_or-set_same places (package_of m n) (Some n) None (omega (arith, known, p.each))))
+            (omega arith, sym s.1)
+        | inr s ↦ subst P (sym (get_or-set_other places (package_of m n) q (Some n) None s.1)) (place_still m q n (λ e. s.1 (sym e)) (get_or places q None) (p.at q h))
+      ];
+}
 
 -- packages in two places are two packages
 pub places-apart : (g : Graph) (m : Part) → IsPartOf g m → (p q : ℕ) → p < length m → q < p → package_of m p ≢ package_of m q
@@ -204,11 +249,6 @@ module _ (g : Graph) (m : Part) (old new : Graph) (p i q j : ℕ) (sizes : new.s
 
 -- ---- the whole part is copied
 
-both_true : (a b : Bool) → (a ≡ true → b ≡ true) → (b ≡ true → a ≡ true) → a ≡ b
-both_true true b f g = sym (f refl)
-both_true false true f g = g refl
-both_true false false f g = refl
-
 pub open-copied : (g : Graph) (m : Part) (h : Graph) → IsOpen h → IsCopied g m h
 open-copied g m h o = record {
   barred = λ p i e. let no = o.barred p i in absurd (cc);
@@ -238,6 +278,15 @@ copied_more g m a b c n x y t alone pairs = record {
         let same : n ≡ p = omega (arith, below, k) in
         subst (λ v. q < v → i < length (states_of m v) → j < length (states_of m q) → is_forbidden_at g m v i q j ≡ true → is_forbidden c v i q j ≡ true) same (pairs i q j) l s u e
   ];
+}
+
+-- an instance with the same states, forbidden alike, is restricted to the part as well
+pub restricted-on : (g : Graph) (m : Part) (a b : Graph) → IsRestrictedTo g m a → SameGraph a b → IsRestrictedTo g m b
+restricted-on g m a b r s = record {
+  each = ap length s.sizes ∙ r.each;
+  wide = λ p known. ap (λ xs. get_or xs p 0) s.sizes ∙ r.wide p known;
+  barred = λ p i known state. s.barred p i ∙ r.barred p i known state;
+  forbidden = λ p i q j first low second high apart. s.forbidden p i q j ∙ r.forbidden p i q j first low second high apart;
 }
 
 pub restricted-from : (g : Graph) (m : Part) (h : Graph) → IsPartOf g m → HasPlaces m h → IsCopied g m h → IsCopiedTo g m h (length m) → IsRestrictedTo g m h

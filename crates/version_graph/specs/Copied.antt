@@ -1,5 +1,5 @@
 -- What is copied from an instance while the instance of some of its packages and states is made.
-use Rattle.std.specs.Prelude.{◌≡◌, ℕ, ◌<◌, Bool, true, length}
+use Rattle.std.specs.Prelude.{◌≡◌, ◌≢◌, ℕ, ◌<◌, Bool, true, List, Option, None, MatchOption, length, slice_index_or}
 use Rattle.version_graph.specs.Graph.{Graph, packages, states, is_barred, is_forbidden}
 use Rattle.version_graph.specs.Part.{Part, package_of, states_of, state_of}
 
@@ -27,6 +27,11 @@ pub record Copies (g : Graph) (m : Part) (old new : Graph) : Type 0 where
   pub barred : (p i : ℕ) → is_barred old p i ≡ true → is_barred new p i ≡ true
   pub forbidden : (p i q j : ℕ) → is_forbidden old p i q j ≡ true → is_forbidden new p i q j ≡ true
   pub copied : IsCopied g m old → IsCopied g m new
+
+-- for each package of g its place in the part, as far as this is below n
+pub record ArePlaces (g : Graph) (m : Part) (n : ℕ) (places : List (Option ℕ)) : Type 0 where
+  pub each : length places ≡ packages g
+  pub at : (q : ℕ) → q < packages g → MatchOption (slice_index_or places q None) ((k : ℕ) → k < n → package_of m k ≢ q) (λ k. (k < n) × (package_of m k ≡ q))
 
 -- what g forbids of the packages below n, h forbids
 pub record IsCopiedTo (g : Graph) (m : Part) (h : Graph) (n : ℕ) : Type 0 where

@@ -10,7 +10,7 @@ pub record Graph : Type 0 where
   pub sizes : List ℕ
   -- by package and state, whether the state is forbidden alone
   pub barred : List (List Bool)
-  -- the forbidden pairs as package, state, package, state, the lower package first
+  -- the forbidden pairs: the lower package, the higher one, the state of the lower one and the state of the higher one
   pub pairs : List (ℕ × ℕ × ℕ × ℕ)
 
 -- how many packages there are
@@ -31,7 +31,7 @@ is_barred g p i = slice_index_or (slice_index_or g.barred p []) i false
 
 -- whether the pair is listed, in this order of its two states
 unfoldable pub has_pair : Graph → ℕ → ℕ → ℕ → ℕ → Bool
-has_pair g p i q j = list_any (λ k. (k.0 == p && k.1 == i) && (k.2 == q && k.3 == j)) g.pairs
+has_pair g p i q j = list_any (λ k. (k.0 == p && k.2 == i) && (k.1 == q && k.3 == j)) g.pairs
 
 -- whether the state i of p and the state j of q are forbidden together, in whichever order they are named
 unfoldable pub is_forbidden : Graph → ℕ → ℕ → ℕ → ℕ → Bool

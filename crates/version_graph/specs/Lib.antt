@@ -1,8 +1,10 @@
 pub mod Graph
+pub mod Keys
 pub mod Family
 pub mod Domain
 pub mod Noted
 pub mod Answers
+pub mod Flat
 pub mod Needed
 pub mod Links
 pub mod Part

@@ -1,9 +1,11 @@
 -- What a package has to do with its neighbours: for each neighbour a table with a row for each state of the package, and in
 -- it a place for each state of the neighbour, that is true where the two states are allowed together.
-use Rattle.std.specs.Prelude.{◌≡◌, ℕ, ◌<◌, Bool, true, not, ◌&&◌, ◌==◌, List, [], length, slice_index, slice_index_or}
+use Rattle.std.specs.Prelude.{◌≡◌, ℕ, ◌<◌, Bool, true, not, ◌&&◌, ◌==◌, nat_lt, List, [], length, slice_index, slice_index_or}
+use Rattle.std.specs.List.{list_any, range_with_len}
 use Rattle.std.specs.List.Sorted.{IsStrictlyIncreasing}
 use Rattle.bit_rows.specs.Rows.{row_at, truth_at}
 use Rattle.version_graph.specs.Graph.{Graph, states, is_forbidden}
+use Rattle.version_graph.specs.Keys.{Key, bare}
 
 abbrev pub Table : Type 0
 Table = List (List Bool)
@@ -61,6 +63,18 @@ unlinked = record { numbers = []; tables = [] }
 abbrev pub link_at : List Linked → ℕ → Linked
 link_at links p = slice_index_or links p unlinked
 
+-- whether the table has that place, and it isn't true
+abbrev pub is_cleared : Table → ℕ → ℕ → Bool
+is_cleared t i j = nat_lt i (length t) && (nat_lt j (length (row_at t i)) && not (truth_at (row_at t i) j))
+
+-- whether the state i is forbidden with the state j of the neighbour q
+abbrev pub forbids_in : Linked → ℕ → ℕ → ℕ → Bool
+forbids_in l i q j = list_any (λ k. number_at l k == q && is_cleared (table_at l k) i j) (range_with_len 0 (length l.numbers))
+
+-- whether the tables of the lower package p forbid its state i with the state j of q
+unfoldable pub together_in : List Linked → ℕ → ℕ → ℕ → ℕ → Bool
+together_in links p i q j = nat_lt p q && forbids_in (link_at links p) i q j
+
 -- the tables of p tell what is forbidden with it
 pub record IsLinkOf (g : Graph) (p : ℕ) (l : Linked) : Type 0 where
   pub rows : (k : ℕ) → k < length l.numbers → length (table_at l k) ≡ states g p
@@ -76,11 +90,11 @@ pub record CanForbid (links : List Linked) (p i q j : ℕ) : Type 0 where
   pub back : (k : ℕ) → k < length (link_at links q).numbers → number_at (link_at links q) k ≡ p → IsInTable (table_at (link_at links q) k) j i
 
 -- the listed pairs are forbidden besides
-pub record ForbidsAll (old new : List Linked) (pairs : List (ℕ × ℕ × ℕ × ℕ)) : Type 0 where
+pub record ForbidsAll (old new : List Linked) (pairs : List Key) : Type 0 where
   pub each : length new ≡ length old
   pub shape : (p : ℕ) → SameShape (link_at old p) (link_at new p)
   pub allows : (p k i j : ℕ) → k < length (link_at old p).numbers →
-      allows_at (link_at new p) k i j ≡ (allows_at (link_at old p) k i j && not (is_forbidden (record { sizes = []; barred = []; pairs = pairs }) p i (number_at (link_at old p) k) j))
+      allows_at (link_at new p) k i j ≡ (allows_at (link_at old p) k i j && not (is_forbidden (bare pairs) p i (number_at (link_at old p) k) j))
 
 -- one package's state i is forbidden besides with the state j of q
 pub record ForbidsOf (old new : List Linked) (p i q j : ℕ) : Type 0 where

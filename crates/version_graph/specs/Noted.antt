@@ -30,6 +30,10 @@ note_at notes k = slice_index_or notes k (0, 0)
 abbrev pub is_settled_at : History → ℕ → Bool
 is_settled_at t k = slice_index_or t.settled k false
 
+-- of the lengths up to n both say the same
+abbrev pub SaysAlike : History → History → ℕ → Type 0
+SaysAlike old new n = (k : ℕ) → k ≤ n → is_settled_at new k ≡ is_settled_at old k
+
 -- stable, and no domain is empty
 pub record IsSettled (g : Graph) (f : Family) : Type 0 where
   pub stable : IsStable g f

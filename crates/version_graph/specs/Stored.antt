@@ -1,17 +1,27 @@
 -- How an instance is kept, and what its parts have to do with its meaning.
 use Rattle.std.specs.Prelude.{◌≡◌, ℕ, ◌<◌, ◌≤◌, Bool, true, ◌&&◌, ◌||◌, ◌==◌, List, [], length, map, slice_index, slice_index_or, sum}
-use Rattle.std.specs.List.{list_any}
+use Rattle.std.specs.List.{list_any, filter}
 use Rattle.std.specs.List.Sorted.{IsStrictlyIncreasing}
 use Rattle.std.specs.declared.vec.Vec.{Vec}
 use Rattle.version_graph.specs.Graph.{Graph, packages, states, has_pair, are_neighbours, IsListOf}
-use Rattle.version_graph.specs.Links.{Linked, link_at, IsLinkOf}
+use Rattle.version_graph.specs.Keys.{Key, is_linked, every_key}
+use Rattle.version_graph.specs.Links.{Linked, link_at, together_in, IsLinkOf}
 
 -- the lists in a list of vectors
 abbrev pub rows_of : {T Z : Type 0} → List (Vec T Z) → List (List T)
 rows_of vs = map (λ v. v.items) vs
 
-abbrev pub graph_of : {Z : Type 0} → List ℕ → List (Vec Bool Z) → List (ℕ × ℕ × ℕ × ℕ) → Graph
+-- what listed pairs make
+abbrev pub graph_of : {Z : Type 0} → List ℕ → List (Vec Bool Z) → List Key → Graph
 graph_of sizes barred pairs = record { sizes = sizes; barred = rows_of barred; pairs = pairs }
+
+-- the pairs that the tables of the packages forbid
+unfoldable pub pairs_in : List ℕ → List Linked → List Key
+pairs_in sizes links = filter (λ k. together_in links k.0 k.2 k.1 k.3) (every_key (length links) (sum sizes))
+
+-- what the tables of the packages make
+abbrev pub told_by : {Z : Type 0} → List ℕ → List (Vec Bool Z) → List Linked → Graph
+told_by sizes barred links = graph_of sizes barred (pairs_in sizes links)
 
 -- each listed pair has the lower package first and is between states that there are
 pub record IsListed (g : Graph) (p i q j : ℕ) : Type 0 where
@@ -47,20 +57,8 @@ pub record AreNeighbourRows (g : Graph) (rows : List (List ℕ)) : Type 0 where
 abbrev pub includes : List ℕ → ℕ → Bool
 includes xs x = list_any (λ y. y == x) xs
 
--- the listed pair at a place
-abbrev pub pair_at : List (ℕ × ℕ × ℕ × ℕ) → ℕ → ℕ × ℕ × ℕ × ℕ
-pair_at pairs k = slice_index_or pairs k (0, 0, 0, 0)
-
--- each listed pair has the lower package first, and both are below n
-pub record AreBelow (n : ℕ) (pairs : List (ℕ × ℕ × ℕ × ℕ)) : Type 0 where
-  pub at : (k : ℕ) → k < length pairs → ((pair_at pairs k).0 < (pair_at pairs k).2) × ((pair_at pairs k).2 < n)
-
--- whether a listed pair is of these two packages, in either order
-abbrev pub is_linked : List (ℕ × ℕ × ℕ × ℕ) → ℕ → ℕ → Bool
-is_linked pairs p q = list_any (λ k. (k.0 == p && k.2 == q) || (k.0 == q && k.2 == p)) pairs
-
 -- for each package, rising, those with which a pair is listed
-pub record AreLinked (n : ℕ) (pairs : List (ℕ × ℕ × ℕ × ℕ)) (rows : List (List ℕ)) : Type 0 where
+pub record AreLinked (n : ℕ) (pairs : List Key) (rows : List (List ℕ)) : Type 0 where
   pub each : length rows ≡ n
   pub rising : (p : ℕ) → p < n → IsStrictlyIncreasing (slice_index_or rows p [])
   pub linked : (p q : ℕ) → p < n → includes (slice_index_or rows p []) q ≡ is_linked pairs p q

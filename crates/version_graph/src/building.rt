@@ -4,7 +4,7 @@ ghost use Rattle.version_graph.specs.Graph.{packages, states, is_barred, is_forb
 ghost use Rattle.version_graph.specs.Answers.{CountsPass, SumsPass, IsMemory};
 ghost use Rattle.version_graph.specs.Stored.{rows_of, AreNeighbourRows};
 
-use crate::counting::{neighbour_rows, open_rows, state_sum};
+use crate::counting::{neighbour_rows, open_rows, order_pairs, state_sum};
 use crate::fault::GraphFault;
 use crate::graph::Instance;
 use crate::linking::{forbid_pairs, free_links};
@@ -26,6 +26,7 @@ pub struct InstanceBuilder {
     sizes: Vec<u32>,
     total: u32,
     barred: Vec<Vec<bool>>,
+    /// The lower package, the higher one, and the state of each.
     pairs: Vec<(u32, u32, u32, u32)>,
 }
 
@@ -157,14 +158,14 @@ impl InstanceBuilder {
         ensures ok { OnOk result ((a b c d : ℕ) → has_pair self.new a b c d ≡ (has_pair self.old a b c d || is_key a b c d p i q j)) }
         ensures err { OnErr result (self.new ≡ self.old) }
     {
-        self.pairs.push((p, i, q, j))?;
+        self.pairs.push((p, q, i, j))?;
         Ok(())
     }
 
     /// The instance. Refused where the sum over neighbouring pairs of the product of their states passes
     /// 2^30, and then where that of the sum of their states passes 2^25, each with the whole sum; and for
     /// want of memory.
-    pub fn finish(self, alloc: Global) -> Result<Instance, GraphFault>
+    pub fn finish(mut self, alloc: Global) -> Result<Instance, GraphFault>
         ensures ok { IfOk result (λ instance. SameGraph self instance) }
         ensures within { OnOk result ((bits self ≤ 2 ^ 30) × (cells self ≤ 2 ^ 25)) }
         ensures err { IfErr result (SumsPass self) }
@@ -181,24 +182,28 @@ impl InstanceBuilder {
     }
 
     /// The instance, whose sums aren't looked at.
-    pub(crate) fn joined(self, alloc: Global) -> Result<Instance, AllocError>
-        ensures { IfOk result (λ instance. instance ≡ self) }
+    pub(crate) fn joined(mut self, alloc: Global) -> Result<Instance, AllocError>
+        ensures { IfOk result (λ instance. SameGraph self instance) }
     {
         let rows = self.neighbour_rows(alloc)?;
         self.linked(alloc, rows.as_slice())
     }
 
-    /// For each package the packages with which a pair is listed.
-    fn neighbour_rows(&self, alloc: Global) -> Result<Vec<Vec<u32>>, AllocError>
-        ensures { IfOk result (λ rows. AreNeighbourRows self.now (rows_of rows.items)) }
+    /// For each package the packages with which a pair is listed. The pairs are put in their order.
+    fn neighbour_rows(&mut self, alloc: Global) -> Result<Vec<Vec<u32>>, AllocError>
+        ensures rows { IfOk result (λ rows. AreNeighbourRows self.new (rows_of rows.items)) }
+        ensures same { SameGraph self.old self.new }
+        ensures bits { bits self.new ≡ bits self.old }
+        ensures cells { cells self.new ≡ cells self.old }
     {
+        order_pairs(&mut self.pairs);
         neighbour_rows(alloc, self.sizes.len(), self.pairs.as_slice())
     }
 
     /// The instance with its tables, from the rows of neighbours.
     fn linked(self, alloc: Global, rows: &[Vec<u32>]) -> Result<Instance, AllocError>
         requires { AreNeighbourRows self (rows_of rows.now) }
-        ensures { IfOk result (λ instance. instance ≡ self) }
+        ensures { IfOk result (λ instance. SameGraph self instance) }
     {
         let mut links = free_links(alloc, rows, self.sizes.as_slice())?;
         forbid_pairs(&mut links, self.pairs.as_slice());
@@ -206,13 +211,12 @@ impl InstanceBuilder {
             sizes,
             total,
             barred,
-            pairs,
+            pairs: _pairs,
         } = self;
         Ok(Instance {
             sizes,
             total,
             barred,
-            pairs,
             links,
         })
     }

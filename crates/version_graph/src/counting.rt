@@ -1,8 +1,9 @@
 //! What is counted and linked while an instance is made.
-ghost use Rattle.std.specs.Prelude.{◌≡◌, ◌≢◌, ◌<◌, ◌≤◌, ◌*◌, ◌+◌, ◌^◌, ◌||◌, ◌==◌, ℕ, true, false, [], length, sum, slice_index, slice_index_or, nat_lt, if◌then◌else◌, IfOk, OnOk, replicate};
+ghost use Rattle.std.specs.Prelude.{◌≡◌, ◌≢◌, ◌<◌, ◌≤◌, ◌*◌, ◌+◌, ◌^◌, ◌||◌, ◌==◌, ℕ, true, false, [], length, sum, slice_index, slice_index_or, nat_lt, if◌then◌else◌, ◌-◌, MatchBool, IfOk, OnOk, replicate};
 ghost use Rattle.std.specs.List.Sorted.{IsStrictlyIncreasing};
 ghost use Rattle.version_graph.specs.Graph.{packages, states, are_neighbours, share, sum_below, bits, cells, IsListOf};
-ghost use Rattle.version_graph.specs.Stored.{rows_of, includes, AreLinked, AreBelow, AreRising, AddsLink, AreNeighbourRows};
+ghost use Rattle.version_graph.specs.Keys.{is_in, AreBelow, AreInOrder};
+ghost use Rattle.version_graph.specs.Stored.{rows_of, includes, AreLinked, AreRising, AddsLink, AreNeighbourRows};
 
 use crate::building::InstanceBuilder;
 use std::alloc::{AllocError, Global};
@@ -38,19 +39,28 @@ pub(crate) fn open_rows(alloc: Global, states: &[u32]) -> Result<Vec<Vec<bool>>,
     Ok(rows)
 }
 
-/// Adds a number to a rising row, if it isn't there.
+/// Whether the number is the last one of the row.
+fn ends_with(row: &[u32], q: u32) -> bool
+    ensures { MatchBool result ((0 < length row.now) × (slice_index row.now (length row.now - 1) ≡ q)) (0 < length row.now → slice_index row.now (length row.now - 1) ≢ q) }
+{
+    match row.last() {
+        Some(last) => *last == q,
+        None => false,
+    }
+}
+
+/// Adds a number that is no lower than the others to a rising row, if it isn't there.
 fn link(row: &mut Vec<u32>, q: u32) -> Result<(), AllocError>
-    requires { IsStrictlyIncreasing row.old.items }
+    requires rising { IsStrictlyIncreasing row.old.items }
+    requires last { (x : ℕ) → includes row.old.items x ≡ true → x ≤ q }
     ensures rising { OnOk result (IsStrictlyIncreasing row.new.items) }
     ensures added { OnOk result ((x : ℕ) → includes row.new.items x ≡ (includes row.old.items x || x == q)) }
 {
-    match row.binary_search(&q) {
-        Ok(_) => Ok(()),
-        Err(place) => {
-            row.insert(place, q)?;
-            Ok(())
-        }
+    if ends_with(row.as_slice(), q) {
+        return Ok(());
     }
+    row.push(q)?;
+    Ok(())
 }
 
 /// As many empty rows as are asked for.
@@ -65,10 +75,11 @@ fn empty_rows(alloc: Global, count: usize) -> Result<Vec<Vec<u32>>, AllocError>
     Ok(rows)
 }
 
-/// Adds q to the row of p, if it isn't there.
+/// Adds q, which is no lower than what the row of p has, to it, if it isn't there.
 fn link_row(rows: &mut Vec<Vec<u32>>, p: u32, q: u32) -> Result<(), AllocError>
     requires known { p < length rows.old.items }
     requires rising { AreRising (rows_of rows.old.items) }
+    requires last { (x : ℕ) → includes (slice_index_or (rows_of rows.old.items) p []) x ≡ true → x ≤ q }
     ensures each { length rows.new.items ≡ length rows.old.items }
     ensures rising { OnOk result (AreRising (rows_of rows.new.items)) }
     ensures added { OnOk result (AddsLink (rows_of rows.old.items) (rows_of rows.new.items) p q) }
@@ -78,18 +89,29 @@ fn link_row(rows: &mut Vec<Vec<u32>>, p: u32, q: u32) -> Result<(), AllocError>
     Ok(())
 }
 
-/// For each package the packages with which a pair is listed.
+/// Puts the pairs in their order, each once.
+pub(crate) fn order_pairs(pairs: &mut Vec<(u32, u32, u32, u32)>)
+    ensures same { (p i q j : ℕ) → is_in pairs.new.items p i q j ≡ is_in pairs.old.items p i q j }
+    ensures ordered { AreInOrder pairs.new.items }
+{
+    pairs.sort_unstable();
+    pairs.dedup();
+}
+
+/// For each package the packages with which a pair is listed. A package's lower neighbours come before it among the first
+/// packages of the pairs, and its higher ones after it, so each number goes to the end of its row.
 pub(crate) fn neighbour_rows(
     alloc: Global,
     count: usize,
     pairs: &[(u32, u32, u32, u32)],
 ) -> Result<Vec<Vec<u32>>, AllocError>
-    requires { AreBelow count pairs.now }
+    requires below { AreBelow count pairs.now }
+    requires ordered { AreInOrder pairs.now }
     ensures { IfOk result (λ rows. AreLinked count pairs.now (rows_of rows.items)) }
 {
     let mut rows = empty_rows(alloc, count)?;
     for pair in pairs {
-        let (p, _, q, _) = *pair;
+        let (p, q, _, _) = *pair;
         link_row(&mut rows, p, q)?;
         link_row(&mut rows, q, p)?;
     }

@@ -3,7 +3,7 @@ ghost use Rattle.std.specs.Prelude.{◌≡◌, ◌<◌, ◌≤◌, ◌-◌, ◌�
 ghost use Rattle.version_graph.specs.Graph.{Graph, packages, states, is_offered, is_state};
 ghost use Rattle.version_graph.specs.Family.{narrowed};
 ghost use Rattle.version_graph.specs.Domain.{has, row, size_of, IsFor};
-ghost use Rattle.version_graph.specs.Noted.{History, Holds, IsFresh, note_at};
+ghost use Rattle.version_graph.specs.Noted.{History, Holds, IsFresh, SaysAlike, note_at};
 
 use crate::graph::Instance;
 use crate::trail::Trail;
@@ -88,6 +88,7 @@ impl Domains {
         requires held { (g : Graph) × Holds g self.old trail.old }
         ensures without { (q j : ℕ) → has self.new q j ≡ (has self.old q j && not (is_state q j p i)) }
         ensures notes { trail.new.notes ≡ trail.old.notes ++ (p, i) ∷ [] }
+        ensures settled { SaysAlike trail.old trail.new (length trail.old.notes) }
         ensures keeps { (g : Graph) → Holds g self.old trail.old → Holds g self.new trail.new }
     {
         self.remove(p, i);
@@ -99,6 +100,7 @@ impl Domains {
         requires noted { 0 < length trail.old.notes }
         requires held { (g : Graph) × Holds g self.old trail.old }
         ensures notes { trail.new.notes ≡ take (length trail.old.notes - 1) trail.old.notes }
+        ensures settled { trail.new.settled ≡ trail.old.settled }
         ensures back { let note = note_at trail.old.notes (length trail.old.notes - 1) in
             (q j : ℕ) → has self.new q j ≡ (has self.old q j || is_state q j note.0 note.1) }
         ensures keeps { (g : Graph) → Holds g self.old trail.old → Holds g self.new trail.new }
@@ -114,6 +116,7 @@ impl Domains {
         requires held { (g : Graph) × Holds g self.old trail.old }
         ensures cut { (q j : ℕ) → has self.new q j ≡ narrowed (has self.old) p i q j }
         ensures earlier { take (length trail.old.notes) trail.new.notes ≡ trail.old.notes }
+        ensures settled { SaysAlike trail.old trail.new (length trail.old.notes) }
         ensures keeps { (g : Graph) → Holds g self.old trail.old → Holds g self.new trail.new }
     {
         for j in 0..self.width(p) {
@@ -137,6 +140,7 @@ impl Domains {
         ensures cut { (q k : ℕ) → has self.new q k ≡ (has self.old q k && (not (is_state q k p j) || (j == i))) }
         ensures longer { length trail.old.notes ≤ length trail.new.notes }
         ensures earlier { take (length trail.old.notes) trail.new.notes ≡ trail.old.notes }
+        ensures settled { SaysAlike trail.old trail.new (length trail.old.notes) }
         ensures keeps { (g : Graph) → Holds g self.old trail.old → Holds g self.new trail.new }
     {
         if j != i && self.has(p, j) {

@@ -20,19 +20,18 @@ pub struct Instance {
     pub(crate) sizes: Vec<u32>,
     pub(crate) total: u32,
     pub(crate) barred: Vec<Vec<bool>>,
-    pub(crate) pairs: Vec<(u32, u32, u32, u32)>,
     pub(crate) links: Vec<Links>,
 }
 
 impl Model for Instance {
     ghost use Rattle.version_graph.specs.Graph.{Graph};
-    ghost use Rattle.version_graph.specs.Stored.{IsStored, graph_of};
+    ghost use Rattle.version_graph.specs.Stored.{IsStored, told_by};
 
     ghost Value = { Graph };
 
-    ghost view = { λ a. graph_of a.sizes.items a.barred.items a.pairs.items };
+    ghost view = { λ a. told_by a.sizes.items a.barred.items a.links.items };
 
-    ghost invariant = { λ a. IsStored (graph_of a.sizes.items a.barred.items a.pairs.items) a.barred.items a.links.items a.total };
+    ghost invariant = { λ a. IsStored (told_by a.sizes.items a.barred.items a.links.items) a.barred.items a.links.items a.total };
 }
 
 impl Instance {
@@ -92,14 +91,6 @@ impl Instance {
         ensures whole { (i q j : ℕ) → is_forbidden self.now p i q j ≡ true → Contains result.now q }
     {
         self.links[p as usize].numbers()
-    }
-
-    /// Whether the two packages are neighbours.
-    pub(crate) fn are_neighbours(&self, p: u32, q: u32) -> bool
-        requires { p < packages self.now }
-        ensures { result ≡ are_neighbours self.now p q }
-    {
-        self.links[p as usize].has(q)
     }
 
     /// The packages whose last state is forbidden alone, rising. The one error is want of memory.

@@ -6,6 +6,7 @@ mod building;
 mod counting;
 mod domain;
 mod fault;
+mod flat_rows;
 mod graph;
 mod laws;
 mod linking;

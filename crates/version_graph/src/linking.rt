@@ -1,7 +1,8 @@
 //! How the tables of neighbours are made and filled.
 ghost use Rattle.std.specs.Prelude.{◌≡◌, ◌<◌, ℕ, [], length, slice_index, slice_index_or, IfOk};
 ghost use Rattle.std.specs.List.Sorted.{IsStrictlyIncreasing};
-ghost use Rattle.version_graph.specs.Stored.{rows_of, pair_at};
+ghost use Rattle.version_graph.specs.Keys.{pair_at};
+ghost use Rattle.version_graph.specs.Stored.{rows_of};
 ghost use Rattle.version_graph.specs.Links.{number_at, table_at, link_at, IsInTable, IsFree, CanForbid, ForbidsAll, ForbidsOf};
 
 use crate::links::Links;
@@ -40,11 +41,11 @@ fn forbid_at(links: &mut Vec<Links>, p: u32, i: u32, q: u32, j: u32)
 
 /// Forbids the pairs in the tables of both their packages.
 pub(crate) fn forbid_pairs(links: &mut Vec<Links>, pairs: &[(u32, u32, u32, u32)])
-    requires { (n : ℕ) → n < length pairs.now → CanForbid links.old.items (pair_at pairs.now n).0 (pair_at pairs.now n).1 (pair_at pairs.now n).2 (pair_at pairs.now n).3 }
+    requires { (n : ℕ) → n < length pairs.now → CanForbid links.old.items (pair_at pairs.now n).0 (pair_at pairs.now n).2 (pair_at pairs.now n).1 (pair_at pairs.now n).3 }
     ensures { ForbidsAll links.old.items links.new.items pairs.now }
 {
     for pair in pairs {
-        let (p, i, q, j) = *pair;
+        let (p, q, i, j) = *pair;
         forbid_at(links, p, i, q, j);
         forbid_at(links, q, j, p, i);
     }

@@ -63,13 +63,6 @@ impl Links {
         }
     }
 
-    /// Whether that package is a neighbour.
-    pub(crate) fn has(&self, q: u32) -> bool
-        ensures { result ≡ includes self.now.numbers q }
-    {
-        self.place_of(q).is_some()
-    }
-
     /// Forbids the state i with the state j of q, if q is a neighbour.
     pub(crate) fn forbid(&mut self, i: u32, q: u32, j: u32)
         requires { (k : ℕ) → k < length self.old.numbers → number_at self.old k ≡ q → IsInTable (table_at self.old k) i j }

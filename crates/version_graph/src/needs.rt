@@ -1,9 +1,9 @@
 //! What each state needs.
-ghost use Rattle.std.specs.Prelude.{◌≡◌, ◌≢◌, ◌<◌, ℕ, [], length, slice_index_or, IfOk};
-ghost use Rattle.version_graph.specs.Graph.{packages, states, does_need, IsListOf};
-ghost use Rattle.version_graph.specs.Needed.{need_row, AreNeeds};
-ghost use Rattle.version_graph.specs.Stored.{rows_of};
+ghost use Rattle.std.specs.Prelude.{◌≡◌, ◌≢◌, ◌<◌, ℕ, [], length, slice_index_or, IfOk, OnOk};
+ghost use Rattle.version_graph.specs.Graph.{packages, states, does_need};
+ghost use Rattle.version_graph.specs.Needed.{need_row, AreNeeds, AddsNeed, AddsNeeds};
 
+use crate::flat_rows::FlatRows;
 use crate::graph::Instance;
 use std::alloc::{AllocError, Global};
 use std::marker::Model;
@@ -11,15 +11,20 @@ use std::marker::Model;
 /// For each state of an instance the packages that it needs.
 #[derive(Drop)]
 pub struct Needs {
-    rows: Vec<Vec<Vec<u32>>>,
+    /// The place of each package's first row, and last how many rows there are.
+    firsts: Vec<u32>,
+    rows: FlatRows,
 }
 
 impl Model for Needs {
-    ghost use Rattle.std.specs.Prelude.{List, ℕ, map};
+    ghost use Rattle.std.specs.Prelude.{List, ℕ, length};
+    ghost use Rattle.version_graph.specs.Flat.{AreStarts, cut};
 
     ghost Value = { List (List (List ℕ)) };
 
-    ghost view = { λ a. map (λ row. map (λ needed. needed.items) row.items) a.rows.items };
+    ghost view = { λ a. cut a.firsts.items a.rows.rows };
+
+    ghost invariant = { λ a. AreStarts a.firsts.items (length a.rows.rows) };
 }
 
 impl Needs {
@@ -29,48 +34,52 @@ impl Needs {
         requires state { i < length (slice_index_or self.now p []) }
         ensures { result.now ≡ need_row self.now p i }
     {
-        self.rows[p as usize][i as usize].as_slice()
+        let first = self.firsts[p as usize] as usize;
+        self.rows.row(first + i as usize)
     }
 
     /// What each state of the instance needs.
     pub(crate) fn of_instance(alloc: Global, instance: &Instance) -> Result<Self, AllocError>
         ensures { IfOk result (λ needs. AreNeeds instance.now needs) }
     {
-        let mut rows = Vec::new(alloc);
+        let mut rows = FlatRows::make(alloc)?;
+        let mut firsts = Vec::new(alloc);
+        firsts.push(0)?;
         for p in 0..instance.packages() {
-            rows.push(package_needs(alloc, instance, p)?)?;
+            add_needs(instance, p, &mut rows)?;
+            firsts.push(rows.count() as u32)?;
         }
-        Ok(Needs { rows })
+        Ok(Needs { firsts, rows })
     }
 }
 
-/// What each state of p needs.
-fn package_needs(alloc: Global, instance: &Instance, p: u32) -> Result<Vec<Vec<u32>>, AllocError>
-    requires { p < packages instance.now }
-    ensures each { IfOk result (λ rows. length rows.items ≡ states instance.now p) }
-    ensures rows { IfOk result (λ rows. (i : ℕ) → i < states instance.now p → IsListOf (does_need instance.now p i) (slice_index_or (rows_of rows.items) i [])) }
+/// Adds for each state of p a row of what it needs.
+fn add_needs(instance: &Instance, p: u32, rows: &mut FlatRows) -> Result<(), AllocError>
+    requires known { p < packages instance.now }
+    requires ended { rows.old.rest ≡ [] }
+    ensures { OnOk result (AddsNeeds instance.now p (states instance.now p) rows.old rows.new) }
 {
-    let mut rows = Vec::new(alloc);
     for i in 0..instance.states(p) {
-        rows.push(state_needs(alloc, instance, p, i)?)?;
+        add_need(instance, p, i, rows)?;
     }
-    Ok(rows)
+    Ok(())
 }
 
-/// What the state i of p needs.
-fn state_needs(alloc: Global, instance: &Instance, p: u32, i: u32) -> Result<Vec<u32>, AllocError>
+/// Adds a row of what the state i of p needs.
+fn add_need(instance: &Instance, p: u32, i: u32, rows: &mut FlatRows) -> Result<(), AllocError>
     requires known { p < packages instance.now }
     requires state { i < states instance.now p }
-    ensures { IfOk result (λ row. IsListOf (does_need instance.now p i) row.items) }
+    requires ended { rows.old.rest ≡ [] }
+    ensures { OnOk result (AddsNeed instance.now p i rows.old rows.new) }
 {
     let neighbours = instance.neighbours(p);
-    let mut row = Vec::new(alloc);
     for q in neighbours {
         if does_need(instance, p, i, *q) {
-            row.push(*q)?;
+            rows.push(*q)?;
         }
     }
-    Ok(row)
+    rows.end_row()?;
+    Ok(())
 }
 
 /// Whether the state i of p needs q.

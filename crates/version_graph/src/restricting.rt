@@ -1,8 +1,8 @@
 //! An instance of some packages and states of another.
-ghost use Rattle.std.specs.Prelude.{◌≡◌, ◌<◌, ◌≤◌, ℕ, true, length, sum, slice_index, IfOk, OnOk};
-ghost use Rattle.version_graph.specs.Graph.{is_barred, is_forbidden};
-ghost use Rattle.version_graph.specs.Part.{states_of, IsPartOf, IsRestrictedTo};
-ghost use Rattle.version_graph.specs.Copied.{is_barred_at, is_forbidden_at, HasPlaces, Copies};
+ghost use Rattle.std.specs.Prelude.{◌≡◌, ◌<◌, ◌≤◌, ℕ, true, length, sum, slice_index, slice_index_or, replicate, None, IfOk, OnOk};
+ghost use Rattle.version_graph.specs.Graph.{packages, is_barred, is_forbidden};
+ghost use Rattle.version_graph.specs.Part.{package_of, states_of, IsPartOf, IsRestrictedTo};
+ghost use Rattle.version_graph.specs.Copied.{is_barred_at, is_forbidden_at, HasPlaces, ArePlaces, Copies};
 
 use crate::building::InstanceBuilder;
 use crate::graph::Instance;
@@ -18,10 +18,11 @@ impl Instance {
         ensures { IfOk result (λ instance. IsRestrictedTo self.now part.now instance) }
     {
         let sizes = self.sizes_of(alloc, part)?;
+        let places = self.places_of(alloc, part)?;
         let mut builder = InstanceBuilder::blank(alloc, sizes.as_slice())?;
         for p in 0..builder.packages() {
             self.copy_states(part, p, &mut builder);
-            self.copy_pairs(part, p, &mut builder)?;
+            self.copy_pairs(part, places.as_slice(), p, &mut builder)?;
         }
         builder.joined(alloc)
     }
@@ -41,6 +42,20 @@ impl Instance {
             sizes.push(part.width(p) as u32)?;
         }
         Ok(sizes)
+    }
+
+    /// For each package of this instance its place in the part, where it has one.
+    fn places_of(&self, alloc: Global, part: &StateMap) -> Result<Vec<Option<u32>>, AllocError>
+        requires { IsPartOf self.now part.now }
+        ensures { IfOk result (λ places. ArePlaces self.now part.now (length part.now) places.items) }
+    {
+        let mut places = no_places(alloc, self.packages())?;
+        for p in 0..part.count() {
+            let place = p as u32;
+            let number = part.package(place) as usize;
+            places[number] = Some(place);
+        }
+        Ok(places)
     }
 
     /// Forbids the states of the package in the place p that are forbidden alone.
@@ -74,23 +89,51 @@ impl Instance {
     fn copy_pairs(
         &self,
         part: &StateMap,
+        places: &[Option<u32>],
         p: u32,
         builder: &mut InstanceBuilder,
     ) -> Result<(), AllocError>
         requires part { IsPartOf self.now part.now }
+        requires places { ArePlaces self.now part.now (length part.now) places.now }
         requires made { HasPlaces part.now builder.old }
         requires known { p < length part.now }
         ensures copies { OnOk result (Copies self.now part.now builder.old builder.new) }
         ensures here { OnOk result ((i q j : ℕ) → q < p → i < length (states_of part.now p) → j < length (states_of part.now q) →
             is_forbidden_at self.now part.now p i q j ≡ true → is_forbidden builder.new p i q j ≡ true) }
     {
-        for q in 0..p {
-            self.copy_block(part, p, q, builder)?;
+        let near = self.neighbours(part.package(p));
+        for q in near {
+            self.copy_near(part, places, p, *q, builder)?;
         }
         Ok(())
     }
 
-    /// Forbids what is forbidden between the packages in the places p and q.
+    /// Forbids what is forbidden between the package in the place p and the package q of this instance, if this has a
+    /// place before p.
+    fn copy_near(
+        &self,
+        part: &StateMap,
+        places: &[Option<u32>],
+        p: u32,
+        q: u32,
+        builder: &mut InstanceBuilder,
+    ) -> Result<(), AllocError>
+        requires part { IsPartOf self.now part.now }
+        requires places { ArePlaces self.now part.now (length part.now) places.now }
+        requires made { HasPlaces part.now builder.old }
+        requires known { p < length part.now }
+        requires near { q < packages self.now }
+        ensures copies { OnOk result (Copies self.now part.now builder.old builder.new) }
+        ensures here { OnOk result ((k i j : ℕ) → k < p → package_of part.now k ≡ q → i < length (states_of part.now p) → j < length (states_of part.now k) →
+            is_forbidden_at self.now part.now p i k j ≡ true → is_forbidden builder.new p i k j ≡ true) }
+    {
+        match place_at(places, q) {
+            Some(place) => self.copy_block(part, p, place, builder),
+            None => Ok(()),
+        }
+    }
+
+    /// Forbids what is forbidden between the packages in the places p and q, if q is before p.
     fn copy_block(
         &self,
         part: &StateMap,
@@ -101,12 +144,12 @@ impl Instance {
         requires part { IsPartOf self.now part.now }
         requires made { HasPlaces part.now builder.old }
         requires known { p < length part.now }
-        requires below { q < p }
+        requires second { q < length part.now }
         ensures copies { OnOk result (Copies self.now part.now builder.old builder.new) }
-        ensures here { OnOk result ((i j : ℕ) → i < length (states_of part.now p) → j < length (states_of part.now q) →
+        ensures here { OnOk result ((i j : ℕ) → q < p → i < length (states_of part.now p) → j < length (states_of part.now q) →
             is_forbidden_at self.now part.now p i q j ≡ true → is_forbidden builder.new p i q j ≡ true) }
     {
-        if !self.are_neighbours(part.package(p), part.package(q)) {
+        if p <= q {
             return Ok(());
         }
         for i in 0..builder.states(p) {
@@ -168,4 +211,19 @@ impl Instance {
         }
         Ok(())
     }
+}
+
+/// The place of the package q.
+fn place_at(places: &[Option<u32>], q: u32) -> Option<u32>
+    requires { q < length places.now }
+    ensures { result ≡ slice_index_or places.now q None }
+{
+    places[q as usize]
+}
+
+/// As many places as are asked for, all of them none.
+fn no_places(alloc: Global, count: u32) -> Result<Vec<Option<u32>>, AllocError>
+    ensures { IfOk result (λ places. places.items ≡ replicate count None) }
+{
+    vec![in alloc; None; count as usize]
 }

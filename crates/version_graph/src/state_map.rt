@@ -66,15 +66,15 @@ impl StateMap {
         self.pieces[p as usize].states.items()[i as usize]
     }
 
-    /// How many packages the map has.
-    pub(crate) fn count(&self) -> usize
+    /// How many packages the map has. It takes no memory.
+    pub fn count(&self) -> usize
         ensures { result ≡ length self.now }
     {
         self.pieces.len()
     }
 
-    /// How many states the package in the place p has.
-    pub(crate) fn width(&self, p: usize) -> usize
+    /// How many states the package in the place p has. It takes no memory.
+    pub fn width(&self, p: usize) -> usize
         requires { p < length self.now }
         ensures { result ≡ length (states_of self.now p) }
     {

@@ -1,5 +1,5 @@
 //! The trail: what was taken out of the domains, so that it can be put back.
-ghost use Rattle.std.specs.Prelude.{◌≡◌, ◌+◌, ◌<◌, ◌≤◌, ◌∷◌, ◌++◌, [], ℕ, true, false, length, IfOk, IfSome, take, slice_set, ◌-◌};
+ghost use Rattle.std.specs.Prelude.{◌≡◌, ◌≢◌, ◌+◌, ◌<◌, ◌≤◌, ◌∷◌, ◌++◌, [], ℕ, true, false, length, IfOk, IfSome, take, slice_set, ◌-◌};
 ghost use Rattle.version_graph.specs.Graph.{Graph};
 ghost use Rattle.version_graph.specs.Family.{IsStable, IsFilled};
 ghost use Rattle.version_graph.specs.Domain.{Rows, has};
@@ -61,10 +61,12 @@ impl Trail {
         self.settled[mark as usize]
     }
 
-    /// Says that the domains at the present length are stable and filled. It takes no memory.
+    /// Says that the domains at the present length are stable and filled. What is said of other lengths stays. It takes
+    /// no memory.
     pub fn settle(&mut self)
         ensures notes { self.new.notes ≡ self.old.notes }
         ensures settled { is_settled_at self.new (length self.old.notes) ≡ true }
+        ensures others { (k : ℕ) → k ≢ length self.old.notes → is_settled_at self.new k ≡ is_settled_at self.old k }
         ensures keeps { (g : Graph) (d : Rows) → Holds g d self.old → IsSettled g (has d) → Holds g d self.new }
     {
         let mark = self.notes.len();

@@ -1,4 +1,4 @@
-use Rattle.std.proofs.Common.{◌∙◌, ◌<◌, ◌||◌, ℕ, ap, subst, sym, List, length, arith, eqb}
+use Rattle.std.proofs.Common.{◌≡◌, ◌∙◌, ◌<◌, ◌≤◌, ◌||◌, true, ℕ, ap, subst, sym, List, length, arith, eqb}
 use Rattle.std.specs.List.Sorted.{IsStrictlyIncreasing}
 use Rattle.std.proofs.lemmas.List.{length-map, map-set}
 use Rattle.version_graph.specs.Stored.{rows_of, includes, AreRising, AddsLink}
@@ -6,11 +6,17 @@ use Rattle.version_graph.proofs.RowLemmas.{row-read}
 use Rattle.version_graph.proofs.GraphLemmas.{rising-set, added-set}
 use Rattle.version_graph.proofs.counting.link_row.Goals as goal
 
-pub link-requires : goal.link-requires
-link-requires c =
+pub link-requires-clause-rising : goal.link-requires-clause-rising
+link-requires-clause-rising c =
     let known : c.args.p < length (rows_of c.args.rows.now.items) = omega (arith, c.requires.known, length-map c.args.rows.now.items (λ v. v.items)) in
     subst (λ (xs : List ℕ). IsStrictlyIncreasing xs) (row-read c.args.rows.now.items c.args.p c.index_mut-row.result.now c.index_mut-row.ensures.value known)
     (c.requires.rising.rising c.args.p known)
+
+pub link-requires-clause-last : goal.link-requires-clause-last
+link-requires-clause-last c =
+    let known : c.args.p < length (rows_of c.args.rows.now.items) = omega (arith, c.requires.known, length-map c.args.rows.now.items (λ v. v.items)) in
+    subst (λ (xs : List ℕ). (x : ℕ) → includes xs x ≡ true → x ≤ c.args.q) (row-read c.args.rows.now.items c.args.p c.index_mut-row.result.now c.index_mut-row.ensures.value known)
+    c.requires.last
 
 pub returns-clause-rising : goal.returns-clause-rising
 returns-clause-rising c =

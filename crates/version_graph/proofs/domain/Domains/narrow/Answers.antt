@@ -11,6 +11,7 @@ loop-j-preserved c = record {
   cut = λ q k. narrow-step _ _ _ q k c.args.p c.args.i c.loop-j.j (c.loop-j.invariant.cut q k) (c.take_other.ensures.cut q k);
   longer = omega (arith, c.loop-j.invariant.longer, c.take_other.ensures.longer);
   earlier = earlier-on c.args.trail.now.notes c.loop-j.trail.notes c.take_other.new.trail.notes c.loop-j.invariant.longer c.loop-j.invariant.earlier c.take_other.ensures.earlier;
+  settled = λ k h. c.take_other.ensures.settled k (omega (arith, h, c.loop-j.invariant.longer)) ∙ c.loop-j.invariant.settled k h;
   keeps = λ g h. c.take_other.ensures.keeps g (c.loop-j.invariant.keeps g h);
 }
 

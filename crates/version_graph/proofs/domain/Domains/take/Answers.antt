@@ -1,4 +1,5 @@
-use Rattle.std.proofs.Common.{◌∙◌, ap, subst, sym}
+use Rattle.std.proofs.Common.{◌∙◌, ◌+◌, ap, subst, sym, arith, false, length, get_or}
+use Rattle.std.proofs.lemmas.List.{get_or-set_other}
 use Rattle.version_graph.proofs.RowLemmas.{has_known, has-written}
 use Rattle.version_graph.proofs.TrailLemmas.{room_to_note, takes, and-flipped}
 use Rattle.version_graph.specs.Domain.{has}
@@ -23,3 +24,8 @@ pub returns-clause-keeps : goal.returns-clause-keeps
 returns-clause-keeps c g h =
     subst (λ x. Holds g x c.push.new.self) (sym c.remove.ensures)
     (takes g c.args.self.now c.args.trail.now c.push.new.self c.args.p c.args.i c.requires.there h c.push.ensures.notes c.push.ensures.settled c.push.ensures.room)
+
+pub returns-clause-settled : goal.returns-clause-settled
+returns-clause-settled c k h =
+    ap (λ xs. get_or xs k false) c.push.ensures.settled
+    ∙ get_or-set_other c.args.trail.now.settled (length c.args.trail.now.notes + 1) k false false (λ e. absurd (omega (arith, e, h)))

@@ -2,7 +2,7 @@ use Rattle.std.proofs.Common.{◌≡◌, ap, arith, length, subst, sym}
 use Rattle.version_graph.specs.Graph.{Graph}
 use Rattle.version_graph.specs.Part.{IsRestrictedTo}
 use Rattle.version_graph.specs.Copied.{IsCopiedTo}
-use Rattle.version_graph.proofs.PartLemmas.{restricted-from, if-ok, places-kept, copied_more}
+use Rattle.version_graph.proofs.PartLemmas.{restricted-from, restricted-on, if-ok, places-kept, copied_more}
 use Rattle.version_graph.proofs.graph.Instance.restricted.Goals as goal
 
 pub loop-p-preserved : goal.loop-p-preserved
@@ -27,4 +27,4 @@ returns c =
     let whole : c.loop-p.p ≡ length m = omega (arith, c.packages-p-end.ensures, ap length c.in_ok-builder.ensures.sizes, ap length c.as_slice.ensures.value, c.in_ok-sizes.ensures.each) in
     let made = restricted-from g m c.loop-p.builder c.requires c.loop-p.invariant.places c.loop-p.invariant.copied
     (subst (IsCopiedTo g m c.loop-p.builder) whole c.loop-p.invariant.to) in
-    if-ok c.joined.result _ _ (λ (h : Graph) e. subst (IsRestrictedTo g m) (sym e) made) c.joined.ensures
+    if-ok c.joined.result _ _ (λ (h : Graph) same. restricted-on g m c.loop-p.builder h made same) c.joined.ensures

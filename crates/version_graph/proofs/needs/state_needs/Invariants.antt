@@ -1,7 +1,0 @@
-use Rattle.std.proofs.Common.{◌≡◌, take}
-use Rattle.std.specs.List.{filter}
-use Rattle.version_graph.specs.Graph.{does_need}
-use Rattle.version_graph.proofs.needs.state_needs.Given as goal
-
-abbrev pub invariant-loop-q : goal.invariant-loop-q
-invariant-loop-q l = l.row.items ≡ filter (does_need l.instance l.p l.i) (take l.q-index l.neighbours)
