@@ -1,8 +1,12 @@
 //! The search: a complete walk over the choices of an instance, whose log is a certificate.
 #![tactic(auto)]
 
+mod advice;
 mod deciding;
+mod heard;
 mod laws;
+mod lists;
+mod orders;
 mod path;
 mod search;
 mod walker;
