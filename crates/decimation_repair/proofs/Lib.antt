@@ -7,3 +7,4 @@ pub mod StandLemmas
 pub mod MoveLemmas
 pub mod AdviceLemmas
 pub mod OrderLemmas
+pub mod BoundLemmas

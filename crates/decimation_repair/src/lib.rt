@@ -11,5 +11,8 @@ mod path;
 mod search;
 mod walker;
 
-pub use laws::{choice_is_lawful, end_leaves_none, end_refutes, found_is_solution, walk_is_one};
+pub use laws::{
+    choice_is_lawful, end_leaves_none, end_refutes, found_is_solution, walk_is_one,
+    walk_stays_within,
+};
 pub use search::{Outcome, Search};
