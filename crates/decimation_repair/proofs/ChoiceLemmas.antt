@@ -1,77 +1,33 @@
--- The least undecided package with its states from the greatest down is a lawful choice.
-use Rattle.std.proofs.Common.{◌≡◌, ◌≢◌, ℕ, zero, suc, ◌<◌, ◌≤◌, List, [], ◌∷◌, length, get_or, refl, sym, ◌∙◌, ap, arith, inl, inr}
-use Rattle.std.proofs.lemmas.Bool.{cases_lt, cases_eq}
+-- The choice by beliefs is lawful: it names a package with two or more closed states and each of these once, and it is one.
+use Rattle.std.proofs.Common.{◌≡◌, ◌≢◌, ℕ, ◌+◌, ◌*◌, ◌<◌, ◌≤◌, true, List, length, get_or, take, refl, sym, ◌∙◌, ap, subst, arith, inl, inr, eqb}
+use Rattle.std.proofs.lemmas.Bool.{cases_lt, cases_eq, ne_eqb, eqb-true}
 use Rattle.std.proofs.lemmas.List.{get_or_default}
-use Rattle.std.specs.List.{Contains}
-use Rattle.decimation_repair.specs.Walk.{IsChoice}
-use Rattle.decimation_repair.specs.Choice.{FirstChoice}
+use Rattle.std.proofs.lemmas.Map.Steps.{length-le_from_distinct_below}
+use Rattle.std.proofs.lemmas.Map.Keys.{IsDistinct-from_apart}
+use Rattle.std.proofs.lemmas.Map.Views.{Contains-from_any}
+use Rattle.std.specs.List.{Contains, IsDistinct}
+use Rattle.std.specs.Ordering.{ordering_then, nat_cmp}
+use Rattle.std.specs.declared.cmp.Ordering.TheVariants.{Equal}
+use Rattle.std.specs.Cmp.{tied_itself, nat_cmp_total}
+use Rattle.version_graph.specs.Graph.{Graph, packages, states}
+use Rattle.version_graph.specs.Family.{Family, InClosure, under}
+use Rattle.maxsum_messages.specs.Belief.{belief}
+use Rattle.maxsum_messages.specs.Choice.{IsLead, IsChosen, Trails, TrailsClearly, standing, IsBefore, IsFalling, AreInOrder}
+use Rattle.maxsum_messages.proofs.One.{chosen-one}
+use Rattle.maxsum_messages.proofs.OneList.{order-one}
+use Rattle.refutation_log.specs.Refutes.{Prefix}
+use Rattle.decimation_repair.specs.Walk.{Choice, IsChoice}
+use Rattle.decimation_repair.specs.Levels.{Levels, zero_levels, plus_levels, minus_levels, compare_levels}
+use Rattle.decimation_repair.specs.Choice.{IsCutOf, AreHeard, BeliefChoice}
+use Rattle.decimation_repair.proofs.EndLemmas.{closed-small}
+use Rattle.decimation_repair.proofs.LevelLemmas.{compare-total, tied-same}
+use Rattle.decimation_repair.proofs.HeardLemmas.{closure-one, heard-one}
 
 -- the place of a listed number
 place-of : (xs : List ℕ) (x : ℕ) → Contains xs x → (k : ℕ) × (k < length xs) × (get_or xs k 0 ≡ x)
 place-of xs x c = (c.0, c.1, get_or_default xs c.0 0 x c.1 ∙ c.2)
 
-at-place : (xs : List ℕ) (k : ℕ) → k < length xs → Contains xs (get_or xs k 0)
-at-place xs k h = (k, h, get_or_default xs k (get_or xs k 0) 0 h)
-
-abbrev falls : List ℕ → Type 0
-falls xs = (j k : ℕ) → j < k → k < length xs → get_or xs k 0 < get_or xs j 0
-
-falls-once : (xs : List ℕ) → falls xs → (j k : ℕ) → j < length xs → k < length xs → get_or xs j 0 ≡ get_or xs k 0 → j ≡ k
-falls-once xs f j k hj hk e = elim (cases_lt j k) [
-  | inl a ↦ (let less = f j k a hk in absurd (omega (arith, less, e)))
-  | inr b ↦ elim (cases_eq j k) [
-    | inl same ↦ same
-    | inr ne ↦ (let less = f k j (omega (arith, b, ne)) hj in absurd (omega (arith, less, e)))
-  ]
-]
-
--- a falling list stays below its elements before
-falls-tail : (x : ℕ) (xs : List ℕ) → falls (x ∷ xs) → falls xs
-falls-tail x xs f = λ j k a b. f (suc j) (suc k) (omega (arith, a)) (omega (arith, b))
-
-falls-head : (x : ℕ) (xs : List ℕ) → falls (x ∷ xs) → (k : ℕ) → k < length xs → get_or xs k 0 < x
-falls-head x xs f = λ k b. f zero (suc k) (omega arith) (omega (arith, b))
-
--- the first number is the greatest
-first-most : (y : ℕ) (ys : List ℕ) → falls (y ∷ ys) → (k x : ℕ) → k < length (y ∷ ys) → get_or (y ∷ ys) k 0 ≡ x → x ≤ y
-first-most y ys h zero x b e = omega (arith, e)
-first-most y ys h (suc k) x b e = let less = falls-head y ys h k (omega (arith, b)) in omega (arith, less, e)
-
-at-first : (x : ℕ) (xs : List ℕ) → Contains (x ∷ xs) x
-at-first x xs = (0, omega arith, refl)
-
-same-head : (x y : ℕ) (xs ys : List ℕ) → falls (x ∷ xs) → falls (y ∷ ys) → Contains (y ∷ ys) x → Contains (x ∷ xs) y → x ≡ y
-same-head x y xs ys f h to from =
-    let c = place-of (y ∷ ys) x to in
-    let d = place-of (x ∷ xs) y from in
-    let up = first-most y ys h c.0 x c.1 c.2 in
-    let down = first-most x xs f d.0 y d.1 d.2 in
-    omega (arith, up, down)
-
-tail-place : (y i : ℕ) (ys : List ℕ) (k : ℕ) → k < length (y ∷ ys) → get_or (y ∷ ys) k 0 ≡ i → i < y → Contains ys i
-tail-place y i ys zero b e less = absurd (omega (arith, e, less))
-tail-place y i ys (suc k) b e less = (k, omega (arith, b), get_or_default ys k i 0 (omega (arith, b)) ∙ e)
-
--- what stands behind equal first numbers
-in-tail : (x y : ℕ) (xs ys : List ℕ) → falls (x ∷ xs) → x ≡ y → ((i : ℕ) → Contains (x ∷ xs) i → Contains (y ∷ ys) i) → (i : ℕ) → Contains xs i → Contains ys i
-in-tail x y xs ys f head to i c =
-    let p = place-of xs i c in
-    let inside = p.1 in
-    let at = p.2 in
-    let less = falls-head x xs f p.0 inside in
-    let q = place-of (y ∷ ys) i (to i (suc p.0, omega (arith, inside), get_or_default xs p.0 i 0 inside ∙ at)) in
-    tail-place y i ys q.0 q.1 q.2 (omega (arith, less, at, head))
-
--- falling lists of the same numbers are the same
-same-falls : (xs ys : List ℕ) → falls xs → falls ys → ((i : ℕ) → Contains xs i → Contains ys i) → ((i : ℕ) → Contains ys i → Contains xs i) → xs ≡ ys
-same-falls [] [] f h to from = refl
-same-falls [] (y ∷ ys) f h to from = let b = (from y (at-first y ys)).1 in absurd (omega (arith, b))
-same-falls (x ∷ xs) [] f h to from = let b = (to x (at-first x xs)).1 in absurd (omega (arith, b))
-same-falls (x ∷ xs) (y ∷ ys) f h to from =
-    let head : x ≡ y = same-head x y xs ys f h (to x (at-first x xs)) (from y (at-first y ys)) in
-    ap (λ z. z ∷ xs) head ∙ ap (λ z. y ∷ z) (same-falls xs ys (falls-tail x xs f) (falls-tail y ys h) (in-tail x y xs ys f head to) (in-tail y x ys xs h (sym head) from))
-
--- two numbers of a falling list mean that it has two places
+-- two numbers of a list mean that it has two places
 two-places : (xs : List ℕ) (i j : ℕ) → i ≢ j → Contains xs i → Contains xs j → 2 ≤ length xs
 two-places xs i j ne c d =
     let p = place-of xs i c in
@@ -81,19 +37,84 @@ two-places xs i j ne c d =
       | inr apart ↦ (let a = p.1 in let b = q.1 in omega (arith, a, b, apart))
     ]
 
-pub first-lawful : IsChoice FirstChoice
-first-lawful = record {
-  known = λ g prefix p order c. c.undecided.known;
-  closed = λ g prefix p order c. c.closed;
-  whole = λ g prefix p order c. c.whole;
-  once = λ g prefix p order c. falls-once order c.falling;
-  several = λ g prefix p order c. two-places order c.undecided.first c.undecided.second c.undecided.apart (c.whole c.undecided.first c.undecided.here) (c.whole c.undecided.second c.undecided.there);
-  one_package = λ g prefix p q xs ys c d. elim (cases_lt p q) [
-    | inl a ↦ absurd (d.least p c.undecided a)
-    | inr b ↦ elim (cases_eq p q) [
-      | inl same ↦ same
-      | inr ne ↦ absurd (c.least q d.undecided (omega (arith, b, ne)))
-    ]
-  ];
-  one_order = λ g prefix p xs ys c d. same-falls xs ys c.falling d.falling (λ i k. d.whole i (c.closed i k)) (λ i k. c.whole i (d.closed i k));
+cut-one : (prefix one two : Prefix) → IsCutOf prefix one → IsCutOf prefix two → one ≡ two
+cut-one prefix one two a b =
+    let low = a.inside in
+    let high = b.most in
+    let down = b.inside in
+    let up = a.most in
+    let same : a.blocks ≡ b.blocks = omega (arith, low, high, down, up) in
+    a.cut_is ∙ ap (λ n. take (16 * n) prefix) same ∙ sym b.cut_is
+
+-- nothing is tried before itself
+before-itself : (value : ℕ → Levels) (i : ℕ) → IsBefore compare_levels value i i → ⊥
+before-itself value i h =
+    let same : standing compare_levels value i i ≡ Equal = ap (λ o. ordering_then o (nat_cmp i i)) (tied_itself compare-total (value i)) ∙ tied_itself nat_cmp_total i in
+    cc
+
+falling-once : (value : ℕ → Levels) (xs : List ℕ) → IsFalling compare_levels value xs → (j k : ℕ) → j < length xs → k < length xs → get_or xs j 0 ≡ get_or xs k 0 → j ≡ k
+falling-once value xs f j k hj hk e = elim (cases_lt j k) [
+  | inl a ↦ absurd (before-itself value (get_or xs k 0) (subst (λ x. IsBefore compare_levels value x (get_or xs k 0)) e (f j k a hk)))
+  | inr b ↦ elim (cases_eq j k) [
+    | inl same ↦ same
+    | inr ne ↦ absurd (before-itself value (get_or xs k 0) (subst (IsBefore compare_levels value (get_or xs k 0)) e (f k j (omega (arith, b, ne)) hj)))
+  ]
+]
+
+-- the same values of each package give the same choice
+chosen-alike : (n : ℕ) (d : Family) (v w : ℕ → ℕ → Levels) (p : ℕ) → ((q : ℕ) → q < n → v q ≡ w q) → IsChosen compare_levels minus_levels n d v p → IsChosen compare_levels minus_levels n d w p
+chosen-alike n d v w p e c = record {
+  known = c.known;
+  lead = c.lead;
+  led = subst (λ x. IsLead compare_levels minus_levels (d p) x c.lead) (e p c.known) c.led;
+  most = λ q h. subst (λ x. Trails compare_levels minus_levels (d q) x c.lead) (e q h) (c.most q h);
+  least = λ q h. (let known = c.known in subst (λ x. TrailsClearly compare_levels minus_levels (d q) x c.lead) (e q (omega (arith, h, known))) (c.least q h));
 }
+
+-- what is believed at a prefix is one
+values-one : (f : List (List Levels)) (g : Graph) (prefix : Prefix) (p q : ℕ) (xs ys : List ℕ) → (a : BeliefChoice f g prefix p xs) → (b : BeliefChoice f g prefix q ys) →
+    (r : ℕ) → r < packages g → belief zero_levels plus_levels f b.messages r ≡ belief zero_levels plus_levels f a.messages r
+values-one f g prefix p q xs ys a b =
+    heard-one f g a.cut b.messages a.messages (subst (λ c. AreHeard f g c b.messages) (cut-one prefix b.cut a.cut b.cut_is a.cut_is) b.heard) a.heard
+
+package-one : (f : List (List Levels)) (g : Graph) (prefix : Prefix) (p q : ℕ) (xs ys : List ℕ) → BeliefChoice f g prefix p xs → BeliefChoice f g prefix q ys → p ≡ q
+package-one f g prefix p q xs ys a b =
+    let closed = closure-one g (under g prefix) b.closed a.closed b.closure a.closure in
+    let there = subst (λ d. IsChosen compare_levels minus_levels (packages g) d (belief zero_levels plus_levels f b.messages) q) closed b.chosen in
+    chosen-one compare_levels compare-total tied-same minus_levels (packages g) a.closed (belief zero_levels plus_levels f a.messages) p q a.chosen
+    (chosen-alike (packages g) a.closed (belief zero_levels plus_levels f b.messages) (belief zero_levels plus_levels f a.messages) q (values-one f g prefix p q xs ys a b) there)
+
+order-same : (f : List (List Levels)) (g : Graph) (prefix : Prefix) (p : ℕ) (xs ys : List ℕ) → BeliefChoice f g prefix p xs → BeliefChoice f g prefix p ys → xs ≡ ys
+order-same f g prefix p xs ys a b =
+    let closed = closure-one g (under g prefix) b.closed a.closed b.closure a.closure in
+    let there = subst (λ (d : Family). AreInOrder compare_levels (d p) (belief zero_levels plus_levels f b.messages p) ys) closed b.in_order in
+    order-one compare_levels compare-total (belief zero_levels plus_levels f a.messages p) (a.closed p) xs ys a.in_order
+    (subst (λ v. AreInOrder compare_levels (a.closed p) v ys) (values-one f g prefix p p xs ys a b p a.chosen.known) there)
+
+passes : (f : List (List Levels)) (g : Graph) (prefix : Prefix) (p : ℕ) (xs : List ℕ) → BeliefChoice f g prefix p xs → (i : ℕ) → Contains xs i → InClosure g (under g prefix) p i
+passes f g prefix p xs a i c = let at = place-of xs i c in a.closure.sound p i (subst (λ n. a.closed p n ≡ true) at.2 (a.in_order.passing at.0 at.1))
+
+pub belief-lawful : (f : List (List Levels)) → IsChoice (BeliefChoice f)
+belief-lawful f = record {
+  known = λ g prefix p order a. a.chosen.known;
+  closed = passes f;
+  whole = λ g prefix p order a i k. a.in_order.whole i (a.closure.whole p i k);
+  once = λ g prefix p order a. falling-once (belief zero_levels plus_levels f a.messages p) order a.in_order.falling;
+  several = λ g prefix p order a.
+      two-places order a.chosen.led.second a.chosen.led.first a.chosen.led.apart (a.in_order.whole a.chosen.led.second a.chosen.led.second_passes) (a.in_order.whole a.chosen.led.first a.chosen.led.first_passes);
+  one_package = package-one f;
+  one_order = order-same f;
+}
+
+-- ---- an order is no longer than its package has states
+
+apart-order : (choose : Choice) → IsChoice choose → (g : Graph) (prefix : Prefix) (p : ℕ) (order : List ℕ) → choose g prefix p order → IsDistinct eqb order
+apart-order choose law g prefix p order c = IsDistinct-from_apart eqb order (λ i j d h b. ne_eqb (get_or order i d) (get_or order j d) (λ e.
+    let first = get_or_default order i d 0 (omega (arith, h, b)) in
+    let second = get_or_default order j d 0 b in
+    let same = law.once g prefix p order c i j (omega (arith, h, b)) b (sym first ∙ e ∙ second) in
+    omega (arith, h, same)))
+
+pub order-fits : (choose : Choice) → IsChoice choose → (g : Graph) (prefix : Prefix) (p : ℕ) (order : List ℕ) → choose g prefix p order → length order ≤ states g p
+order-fits choose law g prefix p order c =
+    length-le_from_distinct_below order (states g p) (apart-order choose law g prefix p order c) (λ q is. closed-small g prefix p q (law.closed g prefix p order c q (Contains-from_any {eq = eqb} (λ x y e. eqb-true x y e) q order is)))

@@ -97,7 +97,7 @@ agree-at (x ∷ xs) p i c a j b =
 at-place : (xs : List ℕ) (k : ℕ) → k < length xs → Contains xs (get_or xs k 0)
 at-place xs k h = (k, h, get_or_default xs k (get_or xs k 0) 0 h)
 
-not-chosen : (choose : Choice) → IsChoice choose → (g : Graph) (prefix : Prefix) (p : ℕ) (order : List ℕ) → choose g prefix p order → is_chosen prefix p ≡ false
+pub not-chosen : (choose : Choice) → IsChoice choose → (g : Graph) (prefix : Prefix) (p : ℕ) (order : List ℕ) → choose g prefix p order → is_chosen prefix p ≡ false
 not-chosen choose law g prefix p order c = elim (cases_Bool (is_chosen prefix p)) [
   | inl is ↦
       let two = law.several g prefix p order c in
@@ -114,7 +114,7 @@ not-chosen choose law g prefix p order c = elim (cases_Bool (is_chosen prefix p)
 under-first : (g : Graph) (prefix : Prefix) (p i : ℕ) → under g prefix p i ≡ true → under g [] p i ≡ true
 under-first g prefix p i e = and_from (is_offered g p i) true (and_parts (is_offered g p i) (agrees prefix p i) e).0 refl
 
-closed-small : (g : Graph) (prefix : Prefix) (p i : ℕ) → InClosure g (under g prefix) p i → i < states g p
+pub closed-small : (g : Graph) (prefix : Prefix) (p i : ℕ) → InClosure g (under g prefix) p i → i < states g p
 closed-small g prefix p i k = (offered_known g p i (and_parts (is_offered g p i) (agrees prefix p i) ((closure-largest g (under g prefix)).within p i k)).0).state
 
 -- every package of the walk's branches is kept: from a state that is left each package has one

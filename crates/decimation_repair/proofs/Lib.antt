@@ -1,5 +1,10 @@
-pub mod WalkLemmas
+pub mod LevelLemmas
+pub mod HeardLemmas
 pub mod ChoiceLemmas
+pub mod WalkLemmas
 pub mod EndLemmas
 pub mod StandLemmas
 pub mod MoveLemmas
+pub mod AdviceLemmas
+pub mod OrderLemmas
+pub mod BoundLemmas

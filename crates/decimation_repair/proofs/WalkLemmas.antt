@@ -26,7 +26,7 @@ solved-solves g prefix chosen s =
     }
 
 pub found-solves : FoundIsSolution
-found-solves g budget chosen nodes f = solved-solves g f.task.prefix chosen f.solved
+found-solves f g budget chosen nodes h = solved-solves g h.task.prefix chosen h.solved
 
 -- ---- one course
 

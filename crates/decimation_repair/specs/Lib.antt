@@ -1,6 +1,10 @@
 pub mod Walk
+pub mod Levels
 pub mod Choice
+pub mod Bound
 pub mod Laws
+pub mod Ordered
 pub mod Path
+pub mod Advised
 pub mod Standing
 pub mod Sought

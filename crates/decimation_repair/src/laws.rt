@@ -1,4 +1,5 @@
 //! Laws of the walk, each a call that does nothing and says the law.
+ghost use Rattle.decimation_repair.specs.Bound.{WalkStaysWithin};
 ghost use Rattle.decimation_repair.specs.Laws.{WalkIsOne, ChoiceIsLawful, FoundIsSolution, EndRefutes, EndLeavesNone};
 
 /// An instance has one walk: one solution or none, and one list of nodes.
@@ -24,4 +25,10 @@ pub fn end_refutes()
 /// Where the walk ends without a solution, there is none.
 pub fn end_leaves_none()
     ensures { EndLeavesNone }
+{}
+
+/// A walk has no more nodes than the product over packages of one more than their states. So a budget that is as great is
+/// never spent.
+pub fn walk_stays_within()
+    ensures { WalkStaysWithin }
 {}

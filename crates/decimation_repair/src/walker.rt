@@ -1,16 +1,22 @@
 //! Where a search stands, and how it goes on.
-ghost use Rattle.std.specs.Prelude.{◌≡◌, ◌<◌, ◌≤◌, ◌+◌, ◌-◌, ◌∷◌, ◌++◌, ℕ, true, false, [], length, IfOk, MatchBool};
-ghost use Rattle.decimation_repair.specs.Standing.{IsAt, IsOpenAt, IsDeadAt, HasLeft, DropsOne, SameSearch, GivesVisit};
+ghost use Rattle.std.specs.Prelude.{◌≡◌, ◌<◌, ◌≤◌, ◌+◌, ◌∷◌, ◌++◌, ℕ, true, false, [], length, IfOk, MatchBool};
 ghost use Rattle.version_graph.specs.Graph.{packages};
 ghost use Rattle.version_graph.specs.Domain.{size_of};
-ghost use Rattle.decimation_repair.specs.Path.{IsFirstWide};
-ghost use Rattle.decimation_repair.specs.declared.walker.Visited.TheVariants.{Solved};
+ghost use Rattle.maxsum_messages.specs.Field.{AreFieldsFor};
 ghost use Rattle.decimation_repair.specs.Walk.{Ends};
-ghost use Rattle.decimation_repair.specs.Choice.{FirstChoice};
+ghost use Rattle.decimation_repair.specs.Path.{prefix_of};
+ghost use Rattle.decimation_repair.specs.Advised.{IsWide};
+ghost use Rattle.decimation_repair.specs.Standing.{choice_of, IsAt, IsOpenAt, IsDeadAt, HasLeft, DropsOne, SameSearch, GivesVisit};
+ghost use Rattle.decimation_repair.specs.declared.walker.Visited.TheVariants.{Solved};
 
-use crate::deciding::{first_undecided, next_state, tell_states};
-use crate::path::{Chosen, append, drop_last, entered, last_choice, set_state};
+use crate::advice::Advice;
+use crate::deciding::{is_decided, tell_states};
+use crate::lists::append;
+use crate::orders::Orders;
+use crate::path::{Chosen, drop_last, entered, last_choice, try_state};
 use graph_pruning::{Closed, close, undo_to};
+use lex_weights::Lex3;
+use maxsum_messages::Fields;
 use pkg_world::States;
 use refutation_log::{Log, Node, NodeKind};
 use std::alloc::{AllocError, Global};
@@ -23,6 +29,8 @@ pub(crate) struct Walker<'a> {
     pub(crate) domains: Domains,
     pub(crate) trail: Trail,
     pub(crate) path: Vec<Chosen>,
+    pub(crate) orders: Orders,
+    pub(crate) advice: Advice<'a>,
     pub(crate) states: States,
     pub(crate) log: Log,
     pub(crate) budget: u32,
@@ -44,10 +52,13 @@ impl<'a> Walker<'a> {
     pub(crate) fn make(
         alloc: Global,
         instance: &'a Instance,
+        fields: &'a Fields<Lex3>,
         budget: u32,
     ) -> Result<Self, AllocError>
+        requires { AreFieldsFor instance.now fields.now }
         ensures start { IfOk result IsAt }
         ensures instance { IfOk result (λ walker. walker.instance.now ≡ instance.now) }
+        ensures fields { IfOk result (λ walker. walker.advice.fields.now ≡ fields.now) }
         ensures budget { IfOk result (λ walker. walker.budget ≡ budget) }
     {
         let mut states = States::make(alloc);
@@ -59,6 +70,8 @@ impl<'a> Walker<'a> {
             domains: Domains::full(alloc, instance)?,
             trail: Trail::make(alloc, instance)?,
             path: Vec::with_capacity(alloc, instance.packages() as usize)?,
+            orders: Orders::make(alloc, instance)?,
+            advice: Advice::make(alloc, instance, fields)?,
             states,
             log,
             budget,
@@ -73,10 +86,13 @@ impl<'a> Walker<'a> {
     {
         match close(self.instance, &mut self.domains, &mut self.trail) {
             Closed::Empty(_) => self.leaf(),
-            Closed::Stable => match first_undecided(self.instance, &self.domains) {
-                Some(package) => self.branch(package),
-                None => self.solve(),
-            },
+            Closed::Stable => {
+                if is_decided(self.instance, &self.domains) {
+                    self.solve()
+                } else {
+                    self.choose()
+                }
+            }
         }
     }
 
@@ -97,26 +113,44 @@ impl<'a> Walker<'a> {
         }
     }
 
-    /// Logs a branch on the package, and chooses it.
-    fn branch(&mut self, package: u32) -> Visited
+    /// Chooses the package that is decided next, and logs the branch on it.
+    fn choose(&mut self) -> Visited
         requires open { IsOpenAt self.old }
-        requires first { IsFirstWide self.old.instance.now self.old.domains «package» }
+        requires wide { IsWide self.old.instance.now self.old.domains }
         ensures same { SameSearch self.old self.new }
         ensures gives { GivesVisit self.old self.new result }
     {
+        let package = self
+            .advice
+            .choose(self.instance, &self.domains, self.path.as_slice());
+        self.branch(package)
+    }
+
+    /// Logs a branch on the package, whose states are in order, and makes the choice.
+    fn branch(&mut self, package: u32) -> Visited
+        requires open { IsOpenAt self.old }
+        requires chosen { choice_of self.old self.old.instance.now (prefix_of self.old.path.items) «package» self.old.advice.order.states }
+        ensures same { SameSearch self.old self.new }
+        ensures gives { GivesVisit self.old self.new result }
+    {
+        // no package has more states than can be counted
+        let _count = self.instance.states(package);
+        let states = self.advice.order.states();
         let node = Node {
             state: entered(&self.path),
             kind: NodeKind::Branch {
                 package,
-                children: self.domains.size(package),
+                children: states.len() as u32,
             },
         };
         if !note(&mut self.log, self.budget, node) {
             return Visited::Full;
         }
+        self.orders.write(package, self.advice.order.states());
         let chosen = Chosen {
             package,
-            state: self.instance.states(package),
+            state: 0,
+            tried: 0,
             mark: self.trail.mark(),
         };
         append(&mut self.path, chosen);
@@ -140,7 +174,7 @@ impl<'a> Walker<'a> {
         requires { HasLeft self.old }
         ensures same { SameSearch self.old self.new }
         ensures log { self.new.log.items ≡ self.old.log.items }
-        ensures next { MatchBool result (IsAt self.new) (Ends self.old.instance.now FirstChoice self.old.budget self.new.log.items) }
+        ensures next { MatchBool result (IsAt self.new) (Ends self.old.instance.now (choice_of self.old) self.old.budget self.new.log.items) }
     {
         while self.path.len() > 0 {
             if self.retry() {
@@ -150,7 +184,7 @@ impl<'a> Walker<'a> {
         false
     }
 
-    /// Goes back to the deepest choice and on to its next state; where it has none, the choice is dropped.
+    /// Goes back to the deepest choice and on to its next state; where none is left, the choice is dropped.
     fn retry(&mut self) -> bool
         requires left { HasLeft self.old }
         requires some { 0 < length self.old.path.items }
@@ -159,11 +193,13 @@ impl<'a> Walker<'a> {
         ensures next { MatchBool result (IsAt self.new) (DropsOne self.old self.new) }
     {
         let last = last_choice(&self.path);
-        undo_to(&mut self.domains, &mut self.trail, last.mark);
-        match next_state(&self.domains, last.package, last.state) {
+        // no package has more states than can be counted
+        let _count = self.instance.states(last.package);
+        match self.orders.state(last.package, last.tried) {
             Some(state) => {
+                undo_to(&mut self.domains, &mut self.trail, last.mark);
                 closing_goes_on();
-                set_state(&mut self.path, state);
+                try_state(&mut self.path, state);
                 self.domains.narrow(last.package, state, &mut self.trail);
                 true
             }

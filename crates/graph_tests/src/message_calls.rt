@@ -40,7 +40,7 @@ fn field_of(p: u32, i: u32) -> Lex3
     }
 }
 
-fn fields_of(alloc: Global, instance: &Instance) -> Result<Fields<Lex3>, AllocError>
+pub(crate) fn fields_of(alloc: Global, instance: &Instance) -> Result<Fields<Lex3>, AllocError>
     ensures { IfOk result (λ fields. AreFieldsFor instance.now fields) }
 {
     let mut fields = Fields::make(alloc, instance)?;

@@ -1,6 +1,11 @@
 //! Searches on small instances: how they end, with which states and which nodes.
+ghost use Rattle.maxsum_messages.specs.Field.{AreFieldsFor};
+
 use crate::graph_calls::{instance_of, ring, two_that_refuse};
+use crate::message_calls::fields_of;
 use decimation_repair::{Outcome, Search};
+use lex_weights::Lex3;
+use maxsum_messages::Fields;
 use refutation_log::{Log, NodeKind};
 use std::alloc::{AllocError, Global};
 use std::test::Fail;
@@ -59,10 +64,23 @@ fn outcome_text(alloc: Global, outcome: &Outcome) -> Result<String, AllocError> 
     }
 }
 
-fn searched(alloc: Global, instance: &Instance, budget: u32) -> Result<String, AllocError> {
-    let search = Search::make(alloc, instance, budget)?;
+fn searched(
+    alloc: Global,
+    instance: &Instance,
+    fields: &Fields<Lex3>,
+    budget: u32,
+) -> Result<String, AllocError>
+    requires { AreFieldsFor instance.now fields.now }
+{
+    let search = Search::make(alloc, instance, fields, budget)?;
     let outcome = search.run();
     outcome_text(alloc, &outcome)
+}
+
+// a search whose states all weigh the same by themselves
+fn searched_evenly(alloc: Global, instance: &Instance, budget: u32) -> Result<String, AllocError> {
+    let fields = Fields::make(alloc, instance)?;
+    searched(alloc, instance, &fields, budget)
 }
 
 #[test]
@@ -81,7 +99,19 @@ fn a_search_ends_by_its_walk(rt: HostRuntime) -> Result<(), Fail> {
         (&three, 64, "empty: - branch 0 2 1 leaf 0 leaf"),
     ];
     for (instance, budget, want) in cases {
-        assert_eq!(rt; searched(alloc, instance, budget)?.as_str(), want);
+        assert_eq!(rt; searched_evenly(alloc, instance, budget)?.as_str(), want);
     }
+    Ok(())
+}
+
+#[test]
+fn a_search_goes_by_its_fields(rt: HostRuntime) -> Result<(), Fail> {
+    let alloc = rt.alloc();
+    let shared = two_that_share(alloc)?;
+    let fields = fields_of(alloc, &shared)?;
+    assert_eq!(rt;
+        searched(alloc, &shared, &fields, 64)?.as_str(),
+        "found 1 0 1: - branch 0 2"
+    );
     Ok(())
 }

@@ -1,7 +1,7 @@
-use Rattle.decimation_repair.specs.Choice.{FirstChoice}
-use Rattle.decimation_repair.proofs.ChoiceLemmas.{first-lawful}
+use Rattle.decimation_repair.specs.Choice.{BeliefChoice}
+use Rattle.decimation_repair.proofs.ChoiceLemmas.{belief-lawful}
 use Rattle.decimation_repair.proofs.EndLemmas.{end-refutes}
 use Rattle.decimation_repair.proofs.laws.end_refutes.Goals as goal
 
 pub returns : goal.returns
-returns c = end-refutes FirstChoice first-lawful
+returns c = λ f. end-refutes (BeliefChoice f) (belief-lawful f)

@@ -16,7 +16,7 @@ returns-clause-gives c =
     let d = c.requires.open.closed in
     record {
       task = task_of path;
-      rest = pending g path s.trail.notes (length path);
+      rest = pending s.orders.rows path (length path);
       walks = d.walks;
       solved = solved-here g (prefix_of path) s.domains c.tell_states.new.states.items d.closed c.requires.decided c.tell_states.ensures.each c.tell_states.ensures.left;
       within = c.requires.open.ready.within;
