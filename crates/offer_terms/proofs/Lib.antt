@@ -1,0 +1,5 @@
+pub mod Rising
+pub mod Searches
+pub mod Finds
+pub mod Offers
+pub mod Books

@@ -1,0 +1,7 @@
+pub mod ById
+pub mod Offered
+pub mod Demanded
+pub mod Feasible
+pub mod Booked
+pub mod Kept
+pub mod Laws
