@@ -1,0 +1,2 @@
+mod FirstCounts
+mod Stopped

@@ -1,0 +1,6 @@
+pub mod Candidates
+pub mod Firsts
+pub mod FixedPackages
+pub mod Given
+pub mod Laws
+pub mod SaidGiven

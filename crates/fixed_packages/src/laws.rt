@@ -1,0 +1,8 @@
+//! Laws of what is fixed, each a call that does nothing and says the law.
+ghost use Rattle.fixed_packages.specs.Laws.{DepsBeforeWeakBeforeExtras, FirstCandidateCounts};
+
+/// A name has the identifier of the first table that has it, and of an identifier the first candidate counts.
+pub fn first_counts()
+    ensures names { DepsBeforeWeakBeforeExtras }
+    ensures candidates { FirstCandidateCounts }
+{}

@@ -1,0 +1,2 @@
+mod FixedFound
+mod InOrder

@@ -1,0 +1,6 @@
+pub mod Answers
+pub mod Catalogued
+pub mod Named
+pub mod SaidCatalog
+pub mod Selected
+pub mod Trees
