@@ -16,7 +16,7 @@ use pkg_world::{
     Bytes, KindAnswer, ListAnswer, Name, Names, NormPath, ReadAnswer, Store, WriteAnswer,
 };
 use std::alloc::{AllocError, Global};
-use std::fs::OpenOptions;
+use std::fs::{OpenFile, OpenOptions};
 use std::io::{ErrorKind, Read, Write};
 use std::rt::Files;
 use std::{fs, io};

@@ -1,0 +1,2 @@
+pub mod RegistryOffers
+pub mod TreeExts
