@@ -46,10 +46,13 @@ others-kept own (p ∷ ps) none =
 no_ranges : (ranges : List Ranged) → None ≡ Some ranges → ⊥
 no_ranges ranges wrong = cc
 
+same_ranges : (xs ys : List Ranged) → Some xs ≡ Some ys → xs ≡ ys
+same_ranges xs ys same = cc
+
 same_allows : (name other : Text) (allowed : Allowed) (ranges : List Ranged) → allowed_in (name, allowed) ≡ some_ranges (other, ranges)
     → (name ≡ other) × (allows allowed ≡ of_ranges ranges)
 same_allows name other (kinds.Spec parts) ranges same = absurd (no_ranges ranges (ap (λ p. p.1) same))
-same_allows name other (kinds.Ranges set) ranges same = (cc, let e : set.items ≡ ranges = cc in ap of_ranges e)
+same_allows name other (kinds.Ranges set) ranges same = (ap (λ p. p.0) same, ap of_ranges (same_ranges set.items ranges (ap (λ p. p.1) same)))
 
 made-same : (deps weak : List (Text × Id)) (made : List (Text × Allowed)) (said : List (Text × List Ranged)) → map allowed_in made ≡ map some_ranges said
     → made_compat deps weak made ≡ compat_ids deps weak said

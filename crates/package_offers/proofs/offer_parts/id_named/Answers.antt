@@ -1,17 +1,17 @@
 -- The names rise, so that halving finds the one.
-use Rattle.std.proofs.Common.{rules, get_or, sym, ap}
-use Rattle.std.proofs.lemmas.List.Sorted.{answers_always}
+use Rattle.std.proofs.Common.{rules, of_calls, get_or, sym, ap}
+use Rattle.std.proofs.lemmas.Fn.{always_returns_same}
 use Rattle.package_tables.specs.Row.{by_bytes}
 use Rattle.package_offers.proofs.NamedLemmas.{named-hit, named-miss}
 use Rattle.package_offers.proofs.offer_parts.id_named.Goals as goal
 
 pub returns-in-Ok : goal.returns-in-Ok
 returns-in-Ok c =
-    let found = c.in-Ok.ensures.position (λ e. by_bytes e.0 c.args.name.now) (answers_always _ _ _ (λ f a r g called. search rules)) in
+    let found = c.in-Ok.ensures.position (λ e. by_bytes e.0 c.args.name.now) (always_returns_same _ _ _ (λ a r f called. search (rules, of_calls))) in
     sym (named-hit c.args.ids.now c.args.name.now c.in-Ok.place (get_or c.args.ids.now c.in-Ok.place c.index-ids-place.result) c.requires c.in-Ok.ensures.bound found
     (ap (get_or c.args.ids.now c.in-Ok.place) c.index-ids-place.is))
 
 pub returns-in-Err : goal.returns-in-Err
 returns-in-Err c =
-    let parted = c.in-Err.ensures.position (λ e. by_bytes e.0 c.args.name.now) (answers_always _ _ _ (λ f a r g called. search rules)) in
+    let parted = c.in-Err.ensures.position (λ e. by_bytes e.0 c.args.name.now) (always_returns_same _ _ _ (λ a r f called. search (rules, of_calls))) in
     sym (named-miss c.args.ids.now c.args.name.now c.in-Err.field-0 c.requires c.in-Err.ensures.bound parted)
