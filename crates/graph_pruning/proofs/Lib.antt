@@ -6,3 +6,4 @@ pub mod ClassLemmas
 pub mod PartingLemmas
 pub mod ExchangeLemmas
 pub mod CutLemmas
+pub mod WideLemmas

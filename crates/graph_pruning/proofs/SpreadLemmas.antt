@@ -11,7 +11,7 @@ use Rattle.std.proofs.Math.Seq.{take-append_seam, take-length}
 use Rattle.version_graph.specs.Graph.{Graph, packages, states, is_forbidden, has_pair, is_state, is_offered}
 use Rattle.version_graph.specs.Family.{Family, IsWithin, Meets, HasEmpty, IsClosureOf, LiesBetween}
 use Rattle.version_graph.specs.Domain.{Rows, has}
-use Rattle.version_graph.specs.Noted.{History, Holds, IsSettled, left_by, is_noted, note_at}
+use Rattle.version_graph.specs.Noted.{History, Holds, IsSettled, SaysAlike, left_by, is_noted, note_at}
 use Rattle.graph_pruning.specs.Spread.{Shrinks, Extends, IsClear, is_pending, AreClear}
 
 pub shrinks-refl : (g : Graph) (f : Family) → Shrinks g f f
@@ -30,18 +30,20 @@ take-within (suc n) (suc m) [] h = refl
 take-within (suc n) (suc m) (x ∷ xs) h = ap (λ r. x ∷ r) (take-within n m xs (omega (arith, h)))
 
 pub extends-refl : (t : History) → Extends t t
-extends-refl t = record { longer = omega arith; earlier = take-length t.notes }
+extends-refl t = record { longer = omega arith; earlier = take-length t.notes; alike = λ k h. refl }
 
 pub extends-trans : (a b c : History) → Extends a b → Extends b c → Extends a c
 extends-trans a b c x y = record {
   longer = omega (arith, x.longer, y.longer);
   earlier = sym (take-within (length a.notes) (length b.notes) c.notes x.longer) ∙ ap (take (length a.notes)) y.earlier ∙ x.earlier;
+  alike = λ k h. y.alike k (omega (arith, h, x.longer)) ∙ x.alike k h;
 }
 
-pub extends-push : (t u : History) (n : ℕ × ℕ) → u.notes ≡ t.notes ++ n ∷ [] → Extends t u
-extends-push t u n e = record {
+pub extends-push : (t u : History) (n : ℕ × ℕ) → u.notes ≡ t.notes ++ n ∷ [] → SaysAlike t u (length t.notes) → Extends t u
+extends-push t u n e alike = record {
   longer = omega (arith, ap length e, length-append t.notes (n ∷ []));
   earlier = ap (take (length t.notes)) e ∙ take-append_seam t.notes (n ∷ []);
+  alike = alike;
 }
 
 -- a state that meets no allowed partner is in no stable family

@@ -3,17 +3,18 @@ use Rattle.std.specs.Prelude.{◌≡◌, ◌≢◌, ℕ, ◌<◌, ◌≤◌, Boo
 use Rattle.std.specs.List.{list_any}
 use Rattle.version_graph.specs.Graph.{Graph, packages}
 use Rattle.version_graph.specs.Family.{Family, IsWithin, IsStable, Meets}
-use Rattle.version_graph.specs.Noted.{History}
+use Rattle.version_graph.specs.Noted.{History, SaysAlike}
 
 -- the new family is within the old one, and each stable family within the old one is within it
 pub record Shrinks (g : Graph) (old new : Family) : Type 0 where
   pub within : IsWithin new old
   pub kept : (s : Family) → IsStable g s → IsWithin s old → IsWithin s new
 
--- the new notes begin with the old ones
+-- the new notes begin with the old ones, and of their lengths the same are said to be settled
 pub record Extends (old new : History) : Type 0 where
   pub longer : length old.notes ≤ length new.notes
   pub earlier : take (length old.notes) new.notes ≡ old.notes
+  pub alike : SaysAlike old new (length old.notes)
 
 -- the domain of q isn't empty, and each state of another package has an allowed partner in it
 pub record IsClear (g : Graph) (f : Family) (q : ℕ) : Type 0 where

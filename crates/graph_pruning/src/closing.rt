@@ -22,7 +22,7 @@ pub enum Closed {
 /// has an allowed partner in every other package's domain. Where a domain of the closure is empty, so are
 /// all, and the domains are left somewhere between the old ones and the closure. Each state that is taken
 /// out is noted after the trail's earlier notes, and at Stable the trail says that the domains are settled at
-/// its present length. It takes no memory.
+/// its present length. What it says of earlier lengths stays. It takes no memory.
 pub fn close(instance: &Instance, domains: &mut Domains, trail: &mut Trail) -> Closed
     requires { Holds instance.now domains.old trail.old }
     ensures answer { ClosesTo instance.now (has domains.old) (has domains.new) result }
@@ -30,6 +30,7 @@ pub fn close(instance: &Instance, domains: &mut Domains, trail: &mut Trail) -> C
     ensures earlier { take (length trail.old.notes) trail.new.notes ≡ trail.old.notes }
     ensures keeps { Holds instance.now domains.new trail.new }
     ensures settled { SaysSettled result trail.new }
+    ensures alike { (k : ℕ) → k < length trail.old.notes → is_settled_at trail.new k ≡ is_settled_at trail.old k }
 {
     match begin(instance, domains, trail) {
         None => Closed::Empty(0),
@@ -211,12 +212,13 @@ fn clear(instance: &Instance, domains: &mut Domains, trail: &mut Trail, q: u32) 
     true
 }
 
-/// Puts back what the notes from the mark on took, takes these notes away and leaves the earlier ones. It
-/// takes no memory.
+/// Puts back what the notes from the mark on took, takes these notes away and leaves the earlier ones, and all that
+/// is said to be settled. It takes no memory.
 pub fn undo_to(domains: &mut Domains, trail: &mut Trail, mark: u32)
     requires below { mark ≤ length trail.old.notes }
     requires held { (g : Graph) × Holds g domains.old trail.old }
     ensures notes { trail.new.notes ≡ take mark trail.old.notes }
+    ensures settled { trail.new.settled ≡ trail.old.settled }
     ensures keeps { (g : Graph) → Holds g domains.old trail.old → Holds g domains.new trail.new }
     ensures back { (g : Graph) (d : Rows) (t : History) → Holds g domains.old trail.old → Holds g d t →
         t.notes ≡ take mark trail.old.notes → (p i : ℕ) → has domains.new p i ≡ has d p i }

@@ -9,6 +9,7 @@ mod laws;
 mod pruning;
 mod reaching;
 mod reducing;
+mod widening;
 
 pub use closing::{Closed, close, undo_to};
 pub use cutting::{cross_off, cut_to};

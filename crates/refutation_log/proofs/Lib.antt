@@ -7,3 +7,4 @@ pub mod Turns
 pub mod Whole
 pub mod Standing
 pub mod Renumbering
+pub mod MovedLemmas

@@ -4,3 +4,4 @@ pub mod Within
 pub mod Found
 pub mod Scratch
 pub mod Renumbered
+pub mod Moved

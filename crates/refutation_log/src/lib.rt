@@ -7,8 +7,10 @@ mod laws;
 mod moves;
 mod node;
 mod scratch;
+mod writing;
 
 pub use check::refutes;
 pub use laws::{refutation_is_sound, renumbered_refutes};
 pub use node::{Log, Node, NodeKind};
 pub use scratch::RefuteScratch;
+pub use writing::renumber;

@@ -8,6 +8,7 @@ invariant-loop-domains l = record {
   above : l.mark ≤ length l.trail.notes;
   fewer : length l.trail.notes ≤ length l.initial.trail.notes;
   notes : l.trail.notes ≡ take (length l.trail.notes) l.initial.trail.notes;
+  settled : l.trail.settled ≡ l.initial.trail.settled;
   keeps : (g : Graph) → Holds g l.initial.domains l.initial.trail → Holds g l.domains l.trail;
 }
 
