@@ -1,14 +1,12 @@
 -- How messages are heard at a cut prefix: the full domains are cut to its choices and closed.
-use Rattle.std.proofs.Common.{◌≡◌, ◌≢◌, ℕ, zero, suc, ◌+◌, ◌*◌, ◌/◌, ◌%◌, ◌<◌, ◌≤◌, Bool, true, false, not, ◌&&◌, ◌||◌, List, [], ◌∷◌, ◌++◌, length, get_or, map, take, refl, sym, ◌∙◌, ap, subst, arith, inl, inr, eqb, Some, None, MatchOption}
+use Rattle.std.proofs.Common.{◌≡◌, ℕ, zero, suc, ◌*◌, ◌/◌, ◌<◌, ◌≤◌, true, not, ◌||◌, List, [], ◌∷◌, length, get_or, take, refl, sym, ◌∙◌, ap, subst, arith, inl, inr, eqb}
 use Rattle.std.proofs.Math.Path.{fun_ext}
 use Rattle.std.proofs.lemmas.Bool.{and_parts, and_from, eqb-true, eq-eqb, cases_Bool}
-use Rattle.std.proofs.lemmas.List.{get_or-take, get_or-map, ext_get_or, length-take-le, length-map, map-append, take-map, take_more}
-use Rattle.std.proofs.lemmas.List.Folds.{list_all-append}
+use Rattle.std.proofs.lemmas.List.{get_or-take, get_or-map, ext_get_or, length-take-le, length-map, take-map}
 use Rattle.std.proofs.lemmas.Nat.{div-add-mod', mod_below}
-use Rattle.std.proofs.Math.Seq.{take-length}
 use Rattle.version_graph.specs.Graph.{Graph, packages, is_offered}
-use Rattle.version_graph.specs.Family.{Family, InClosure, HasEmpty, IsClosureOf, narrowed, agrees, under}
-use Rattle.version_graph.specs.Domain.{Rows, has, IsFor, size_of}
+use Rattle.version_graph.specs.Family.{HasEmpty, IsClosureOf, agrees, under}
+use Rattle.version_graph.specs.Domain.{Rows, has, IsFor}
 use Rattle.version_graph.specs.Noted.{History, Holds, left_by, is_noted}
 use Rattle.version_graph.proofs.FamilyLemmas.{closure-largest, below_within}
 use Rattle.graph_pruning.specs.Closing.{IsClosedFrom}
@@ -17,7 +15,6 @@ use Rattle.maxsum_messages.specs.Post.{Post, IsPostFor}
 use Rattle.maxsum_messages.specs.Kept.{AreAligned}
 use Rattle.maxsum_messages.specs.Choice.{IsSingle, IsChosen, AreInOrder}
 use Rattle.maxsum_messages.specs.Belief.{belief}
-use Rattle.refutation_log.specs.Refutes.{Prefix}
 use Rattle.decimation_repair.specs.Choice.{IsCutOf, AreHeard, BeliefChoice}
 use Rattle.decimation_repair.specs.Levels.{Levels, zero_levels, plus_levels, minus_levels, compare_levels}
 use Rattle.decimation_repair.specs.Path.{nothing, chosen_at, prefix_of, choices_before}

@@ -2,7 +2,6 @@
 -- branch the children count so little that with the branch they come to no more.
 use Rattle.std.proofs.Common.{◌≡◌, ℕ, zero, suc, ◌+◌, ◌*◌, ◌<◌, ◌≤◌, Bool, true, false, not, ◌||◌, cond, List, [], ◌∷◌, ◌++◌, length, get_or, map, refl, sym, ◌∙◌, ap, subst, arith, inl, inr, eqb, ◌&&◌, add-one}
 use Rattle.std.proofs.lemmas.Bool.{cases_eq, cases_lt, cases_Bool, and_parts, and_from, eqb-true, eq-eqb, ne_eqb}
-use Rattle.std.proofs.lemmas.Bool.Decides.{eqb_tells}
 use Rattle.std.proofs.lemmas.List.{length-map, get_or-map, get_or_default}
 use Rattle.std.proofs.lemmas.List.Folds.{list_all-append}
 use Rattle.std.proofs.lemmas.Map.Steps.{length-le_from_distinct_below}
@@ -16,7 +15,7 @@ use Rattle.version_graph.specs.Family.{Family, InClosure, IsClosureOf, agrees, u
 use Rattle.version_graph.proofs.FamilyLemmas.{closure-largest, below_within}
 use Rattle.refutation_log.specs.Refutes.{Prefix}
 use Rattle.refutation_log.specs.declared.node.Node.{Node}
-use Rattle.decimation_repair.specs.Walk.{Choice, IsChoice, Task, root, behind, Visits, dead, open_at, Branches, Walks}
+use Rattle.decimation_repair.specs.Walk.{Choice, IsChoice, Task, root, behind, Visits, dead, open_at, Walks}
 use Rattle.decimation_repair.specs.Bound.{product_below, most_nodes, StaysWithin, WalkStaysWithin}
 use Rattle.decimation_repair.specs.Choice.{BeliefChoice}
 use Rattle.decimation_repair.proofs.ChoiceLemmas.{belief-lawful}

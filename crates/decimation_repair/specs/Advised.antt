@@ -1,5 +1,5 @@
 -- What the search keeps for its choices: messages, with the choices that they are of.
-use Rattle.std.specs.Prelude.{◌≡◌, ℕ, ◌<◌, ◌≤◌, Bool, true, List, length, vec_capacity}
+use Rattle.std.specs.Prelude.{◌≡◌, ℕ, ◌<◌, ◌≤◌, true, List, length, vec_capacity}
 use Rattle.version_graph.specs.Graph.{Graph, packages}
 use Rattle.version_graph.specs.Family.{HasEmpty, under}
 use Rattle.version_graph.specs.Noted.{Holds}

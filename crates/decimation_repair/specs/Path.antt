@@ -1,6 +1,6 @@
 -- Where a walk stands: the choices on the way, each with the length that the trail had before it and with how many of its
 -- states were tried, and what is still to be visited. What is chosen at a prefix is a parameter.
-use Rattle.std.specs.Prelude.{◌≡◌, ℕ, zero, suc, ◌<◌, ◌≤◌, List, [], ◌∷◌, ◌++◌, length, slice_index_or, map, take, drop, Option, Some, None}
+use Rattle.std.specs.Prelude.{ℕ, zero, suc, ◌<◌, ◌≤◌, List, [], ◌∷◌, ◌++◌, length, slice_index_or, map, take, drop, Option, Some, None}
 use Rattle.version_graph.specs.Graph.{Graph}
 use Rattle.version_graph.specs.Family.{Family, HasEmpty, IsFilled, IsClosureOf, LiesBetween, under}
 use Rattle.version_graph.specs.Domain.{Rows, has}

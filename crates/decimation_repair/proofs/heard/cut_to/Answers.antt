@@ -1,4 +1,4 @@
-use Rattle.std.proofs.Common.{◌≡◌, ◌∙◌}
+use Rattle.std.proofs.Common.{◌∙◌}
 use Rattle.decimation_repair.specs.Path.{chosen_at}
 use Rattle.decimation_repair.proofs.AdviceLemmas.{no-choices, choice-left}
 use Rattle.decimation_repair.proofs.heard.cut_to.Goals as goal

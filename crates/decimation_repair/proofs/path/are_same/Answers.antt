@@ -1,4 +1,4 @@
-use Rattle.std.proofs.Common.{◌≡◌, ◌<◌, ℕ, length, arith}
+use Rattle.std.proofs.Common.{◌≡◌, length, arith}
 use Rattle.decimation_repair.proofs.AdviceLemmas.{same-choices}
 use Rattle.decimation_repair.proofs.path.are_same.Goals as goal
 

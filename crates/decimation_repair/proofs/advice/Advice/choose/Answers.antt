@@ -1,5 +1,4 @@
-use Rattle.std.proofs.Common.{◌≡◌, ◌<◌, ◌*◌, ◌/◌, List, ℕ, length, get_or, ap, sym, subst, arith}
-use Rattle.version_graph.specs.Domain.{has}
+use Rattle.std.proofs.Common.{◌*◌, ◌/◌, List, ℕ, length, get_or, ap, sym, subst, arith}
 use Rattle.decimation_repair.specs.Path.{prefix_of}
 use Rattle.decimation_repair.specs.Advised.{IsOpenPath}
 use Rattle.decimation_repair.specs.Choice.{AreHeard, BeliefChoice}

@@ -1,5 +1,5 @@
-use Rattle.std.proofs.Common.{◌≡◌, ◌∙◌, ◌<◌, ◌≤◌, ◌+◌, ◌∷◌, [], ℕ, ap, sym, subst, arith, length, get_or, length-append}
-use Rattle.version_graph.specs.Graph.{packages, states}
+use Rattle.std.proofs.Common.{◌∙◌, ◌≤◌, ◌+◌, ◌∷◌, [], ap, sym, subst, arith, length, get_or, length-append}
+use Rattle.version_graph.specs.Graph.{states}
 use Rattle.decimation_repair.specs.Ordered.{rooms_of}
 use Rattle.decimation_repair.proofs.OrderLemmas.{roomy, one-more-room}
 use Rattle.decimation_repair.proofs.orders.Orders.make.Goals as goal

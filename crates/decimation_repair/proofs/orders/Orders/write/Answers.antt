@@ -1,4 +1,4 @@
-use Rattle.std.proofs.Common.{◌≡◌, ◌∙◌, ◌<◌, ◌≤◌, ℕ, ap, subst, arith, length, set}
+use Rattle.std.proofs.Common.{◌∙◌, ◌<◌, ap, subst, arith, length, set}
 use Rattle.std.proofs.lemmas.List.{map-set, length-map}
 use Rattle.std.specs.declared.vec.Vec.{Vec}
 use Rattle.version_graph.specs.Stored.{rows_of}

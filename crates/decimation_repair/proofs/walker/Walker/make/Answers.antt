@@ -1,4 +1,4 @@
-use Rattle.std.proofs.Common.{◌≡◌, ◌∙◌, ◌<◌, ◌≤◌, ◌+◌, [], ap, arith, length}
+use Rattle.std.proofs.Common.{◌≡◌, ◌∙◌, [], ap, arith, length}
 use Rattle.decimation_repair.specs.Choice.{BeliefChoice}
 use Rattle.decimation_repair.proofs.MoveLemmas.{started}
 use Rattle.decimation_repair.proofs.walker.Walker.make.Goals as goal
