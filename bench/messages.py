@@ -7,8 +7,9 @@ runs it, and prints one line for each measurement. Needs `rt` on the path and `/
 import shutil
 import tempfile
 
-from built import built, timed
-from nets import nets
+from built import built, fewest
+from nets import generated, nets
+from weighing import weighing
 
 MAIN = r"""//! Makes an instance, closes its domains, and sends messages for some rounds or reads each pair's bit as often.
 #![tactic(auto)]
@@ -16,9 +17,10 @@ MAIN = r"""//! Makes an instance, closes its domains, and sends messages for som
 mod nets;
 mod reading;
 mod talking;
+mod weighing;
 
 use anyhow::Result;
-use nets::{general, world};
+use nets::{general, pair_of, world};
 use reading::read_all;
 use std::env;
 use talking::talk;
@@ -44,10 +46,7 @@ fn main(rt: HostRuntime) -> Result<()> {
     }
     let mut pairs = Vec::new(alloc);
     for word in words {
-        let code = number(Some(word));
-        let first = code / states / packages.max(1);
-        let second = code / states % packages.max(1);
-        pairs.push((first / states, first % states, second, code % states))?;
+        pairs.push(pair_of(number(Some(word)), packages, states))?;
     }
     let made = if pairs.is_empty() {
         general(alloc, packages, states)
@@ -116,41 +115,18 @@ fn read_pair(instance: &Instance, p: u32, q: u32) -> u64
 """
 
 TALKING = r"""//! Messages over an instance whose domains are closed.
-ghost use Rattle.std.specs.Prelude.{◌≡◌, ◌<◌, ◌^◌, ℕ, IsTrue, IfOk, IfSome};
+ghost use Rattle.std.specs.Prelude.{IsTrue, IfOk, IfSome};
 ghost use Rattle.version_graph.specs.Domain.{has, IsFor};
 ghost use Rattle.version_graph.specs.Noted.{Holds, IsSettled};
 ghost use Rattle.maxsum_messages.specs.Field.{AreFieldsFor};
 ghost use Rattle.maxsum_messages.specs.Post.{IsPostFor};
 
+use crate::weighing::fields_of;
 use graph_pruning::{Closed, close};
-use lex_weights::{Level, Lex, Lex3, Weight};
+use lex_weights::Lex3;
 use maxsum_messages::{Fields, Messages, Order, closure_is_stable};
 use std::alloc::{AllocError, Global};
 use version_graph::{Domains, Instance, Trail};
-
-fn small(first: u8, second: u8, third: u8) -> Lex3
-    ensures { ⟦<Lex3 as Weight>⟧.is_within (2 ^ 24) result }
-{
-    Lex(
-        Level(i64::from(first)),
-        Lex(Level(i64::from(second)), Level(i64::from(third))),
-    )
-}
-
-/// A state's number at the first level where the package is a root, else at the second.
-fn fields_of(alloc: Global, instance: &Instance, roots: u32) -> Result<Fields<Lex3>, AllocError>
-    ensures { IfOk result (λ fields. AreFieldsFor instance.now fields) }
-{
-    let mut fields = Fields::make(alloc, instance)?;
-    for p in 0..instance.packages() {
-        for i in 0..instance.states(p) {
-            let number = u8::try_from(i).unwrap_or(255);
-            let field = if p < roots { small(number, 0, 0) } else { small(0, number, 0) };
-            fields.set(p, i, field);
-        }
-    }
-    Ok(fields)
-}
 
 fn is_closed(instance: &Instance, domains: &mut Domains, trail: &mut Trail) -> bool
     requires { Holds instance.now domains.old trail.old }
@@ -218,7 +194,7 @@ pub fn talk(
     roots: u32,
     rounds: u32,
 ) -> Result<Option<u32>, AllocError> {
-    let fields = fields_of(alloc, instance, roots)?;
+    let fields = fields_of(alloc, instance, 0, roots)?;
     match closed(alloc, instance)? {
         Some(domains) => {
             let messages = said(alloc, instance, &fields, &domains, rounds)?;
@@ -230,43 +206,6 @@ pub fn talk(
 """
 
 PROOFS = {
-    "small/Answers.antt": """use Rattle.std.proofs.Common.{arith}
-use Rattle.std.proofs.lemmas.Int.{ints}
-use Rattle.messages_bench.proofs.talking.small.Goals as goal
-
-pub returns : goal.returns
-returns c = (
-  record { above = omega (arith, ints); below = omega (arith, ints) },
-  (
-    record { above = omega (arith, ints); below = omega (arith, ints) },
-    record { above = omega (arith, ints); below = omega (arith, ints) },
-  ),
-)
-""",
-    "fields_of/Invariants.antt": """use Rattle.maxsum_messages.specs.Field.{AreFieldsFor}
-use Rattle.messages_bench.proofs.talking.fields_of.Given as goal
-
-abbrev pub invariant-loop-p : goal.invariant-loop-p
-invariant-loop-p l = AreFieldsFor l.instance l.fields
-
-abbrev pub invariant-loop-i : goal.invariant-loop-i
-invariant-loop-i l = AreFieldsFor l.instance l.fields
-""",
-    "fields_of/Answers.antt": """use Rattle.std.proofs.Common.{◌∙◌, arith}
-use Rattle.messages_bench.proofs.talking.fields_of.Goals as goal
-
-pub set-requires-clause-known : goal.set-requires-clause-known
-set-requires-clause-known c = omega (arith, c.loop-i.invariant.each)
-
-pub set-requires-clause-state : goal.set-requires-clause-state
-set-requires-clause-state c = omega (arith, c.loop-i.invariant.wide c.loop-p.p (omega arith))
-
-pub loop-i-preserved : goal.loop-i-preserved
-loop-i-preserved c = record {
-  each = c.set.ensures.each ∙ c.loop-i.invariant.each;
-  wide = λ q h. c.set.ensures.wide q ∙ c.loop-i.invariant.wide q h;
-}
-""",
     "is_closed/Answers.antt": """use Rattle.version_graph.specs.Domain.{has}
 use Rattle.messages_bench.proofs.talking.is_closed.Goals as goal
 
@@ -310,36 +249,8 @@ FILES = {
     "src/talking.rt": TALKING,
     **{f"proofs/talking/{name}": text for name, text in PROOFS.items()},
     **nets("messages_bench"),
+    **weighing("messages_bench"),
 }
-
-
-def generated(number):
-    """The forbidden pairs of 300 packages of nine states, as the generator of worlds draws them."""
-    state = number
-
-    def draw(count):
-        nonlocal state
-        state = (state * 6364136223846793005 + 1442695040888963407) % 2**64
-        return (state >> 33) % count
-
-    middle = [draw(8) for _ in range(300)]
-    needed = []
-    for k in range(300):
-        drawn = [k + 1 + draw(20) for _ in range(draw(4))]
-        needed.append(list(dict.fromkeys(d for d in drawn if d < 300)))
-    pairs = []
-    for k, d in ((k, d) for k in range(300) for d in needed[k]):
-        for i in range(8):
-            low = draw(middle[d] + 1)
-            high = middle[d] + draw(8 - middle[d])
-            pairs += [(k, i, d, j) for j in range(9) if not low <= j <= high]
-    return pairs
-
-
-def fewest(program, *words):
-    """The least seconds of three runs, and what was printed."""
-    runs = [timed(program, *words) for _ in range(3)]
-    return min(seconds for seconds, _, _ in runs), runs[0][2]
 
 
 def tell(program, title, times, packages, states, roots, codes=()):
@@ -362,8 +273,7 @@ def main():
         program = built(top, "messages_bench", stands_on, FILES)
         tell(program, "500 packages of 45 states, like General", 1, 500, 45, 50)
         tell(program, "500 packages of 12 states, like General", 10, 500, 12, 50)
-        codes = [((p * 9 + i) * 300 + q) * 9 + j for p, i, q, j in generated(1)]
-        tell(program, "300 packages of 9 states, as the generator draws them", 100, 300, 9, 10, codes)
+        tell(program, "300 packages of 9 states, as the generator draws them", 100, 300, 9, 10, generated(1))
     finally:
         shutil.rmtree(top)
 

@@ -1,4 +1,4 @@
-"""Instances for benchmarks: a source file that makes them, and its proofs."""
+"""Instances for benchmarks: a source file that makes them, its proofs, and the pairs of drawn ones."""
 
 NETS = r"""//! Instances: packages that are all neighbours, nets, and one like that of the General registry.
 ghost use Rattle.std.specs.Prelude.{◌≡◌, ◌<◌, ◌↔◌, IsTrue, length, slice_index};
@@ -97,6 +97,66 @@ fn forbid_block(
     Ok(())
 }
 
+/// Packages that may not have the same state, all of them roots with so many states each, and after them so many free
+/// ones, which have two states and of which nothing is forbidden.
+pub fn pigeons(alloc: Global, packages: u32, states: u32, free: u32) -> Result<Instance, GraphFault>
+    requires { 0 < states }
+{
+    let all = packages.saturating_add(free);
+    let sizes = vec![in alloc; states; all as usize]?;
+    let mut builder = InstanceBuilder::make(alloc, sizes.as_slice())?;
+    for p in 0..all {
+        let first = if p < packages { states - 1 } else { 2 };
+        forbid_from(&mut builder, sizes.as_slice(), p, first, states);
+    }
+    for p in 0..packages {
+        for q in 0..p {
+            forbid_same(&mut builder, sizes.as_slice(), p, q, states - 1)?;
+        }
+    }
+    builder.finish(alloc)
+}
+
+/// Forbids the states of p from one on.
+fn forbid_from(builder: &mut InstanceBuilder, sizes: &[u32], p: u32, first: u32, states: u32)
+    requires { builder.old.sizes ≡ sizes.now }
+    ensures { builder.new.sizes ≡ sizes.now }
+{
+    for i in first..states {
+        if has_state(sizes, p, i) {
+            builder.forbid_state(p, i);
+        }
+    }
+}
+
+/// Forbids that p and q have the same offer.
+fn forbid_same(
+    builder: &mut InstanceBuilder,
+    sizes: &[u32],
+    p: u32,
+    q: u32,
+    offers: u32,
+) -> Result<(), GraphFault>
+    requires { builder.old.sizes ≡ sizes.now }
+    ensures { builder.new.sizes ≡ sizes.now }
+{
+    for i in 0..offers {
+        if p != q && has_state(sizes, p, i) && has_state(sizes, q, i) {
+            builder.forbid_pair(p, i, q, i)?;
+        }
+    }
+    Ok(())
+}
+
+/// The pair that a code stands for.
+pub fn pair_of(code: u32, packages: u32, states: u32) -> (u32, u32, u32, u32)
+    requires { 0 < states }
+{
+    let first = code / states / packages.max(1);
+    let second = code / states % packages.max(1);
+    (first / states, first % states, second, code % states)
+}
+
 /// Packages of so many states each, with the last state of the first so many and these pairs forbidden.
 pub fn world(
     alloc: Global,
@@ -145,6 +205,30 @@ use Rattle.NAME.proofs.nets.general.Given as goal
 abbrev pub invariant-loop-p : goal.invariant-loop-p
 invariant-loop-p l = l.builder.sizes ≡ l.sizes.items
 """,
+    "pigeons": """use Rattle.std.proofs.Common.{◌≡◌}
+use Rattle.NAME.proofs.nets.pigeons.Given as goal
+
+abbrev pub invariant-loop-p : goal.invariant-loop-p
+invariant-loop-p l = l.builder.sizes ≡ l.sizes.items
+
+abbrev pub invariant-loop-p-2 : goal.invariant-loop-p-2
+invariant-loop-p-2 l = l.builder.sizes ≡ l.sizes.items
+
+abbrev pub invariant-loop-q : goal.invariant-loop-q
+invariant-loop-q l = l.builder.sizes ≡ l.sizes.items
+""",
+    "forbid_from": """use Rattle.std.proofs.Common.{◌≡◌}
+use Rattle.NAME.proofs.nets.forbid_from.Given as goal
+
+abbrev pub invariant-loop-i : goal.invariant-loop-i
+invariant-loop-i l = l.builder.sizes ≡ l.sizes
+""",
+    "forbid_same": """use Rattle.std.proofs.Common.{◌≡◌}
+use Rattle.NAME.proofs.nets.forbid_same.Given as goal
+
+abbrev pub invariant-loop-i : goal.invariant-loop-i
+invariant-loop-i l = l.builder.sizes ≡ l.sizes
+""",
     "forbid_block": """use Rattle.std.proofs.Common.{◌≡◌}
 use Rattle.NAME.proofs.nets.forbid_block.Given as goal
 
@@ -161,3 +245,26 @@ def nets(name):
     """The files of a crate of this name that make the instances."""
     proofs = {f"proofs/nets/{call}/Invariants.antt": text.replace("NAME", name) for call, text in PROOFS.items()}
     return {"src/nets.rt": NETS, **proofs}
+
+
+def generated(number):
+    """The codes of the forbidden pairs of 300 packages of nine states, as the generator of worlds draws them."""
+    state = number
+
+    def draw(count):
+        nonlocal state
+        state = (state * 6364136223846793005 + 1442695040888963407) % 2**64
+        return (state >> 33) % count
+
+    middle = [draw(8) for _ in range(300)]
+    needed = []
+    for k in range(300):
+        drawn = [k + 1 + draw(20) for _ in range(draw(4))]
+        needed.append(list(dict.fromkeys(d for d in drawn if d < 300)))
+    pairs = []
+    for k, d in ((k, d) for k in range(300) for d in needed[k]):
+        for i in range(8):
+            low = draw(middle[d] + 1)
+            high = middle[d] + draw(8 - middle[d])
+            pairs += [(k, i, d, j) for j in range(9) if not low <= j <= high]
+    return [((p * 9 + i) * 300 + q) * 9 + j for p, i, q, j in pairs]
