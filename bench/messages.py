@@ -7,7 +7,7 @@ runs it, and prints one line for each measurement. Needs `rt` on the path and `/
 import shutil
 import tempfile
 
-from built import built, fewest
+from built import built, quickest
 from nets import generated, nets
 from weighing import weighing
 
@@ -256,9 +256,9 @@ FILES = {
 def tell(program, title, times, packages, states, roots, codes=()):
     """Prints what 8 rounds and 8 reads of all pairs take, from so many times as many."""
     world = (packages, states, roots, *codes)
-    made, _ = fewest(program, 0, 0, *world)
-    said, chosen = fewest(program, 8 * times, 0, *world)
-    read, allowed = fewest(program, 0, 8 * times, *world)
+    made, _, _ = quickest(program, 0, 0, *world)
+    said, _, chosen = quickest(program, 8 * times, 0, *world)
+    read, _, allowed = quickest(program, 0, 8 * times, *world)
     rounds, reads = (said - made) / times, (read - made) / times
     print(
         f"{title}: 8 rounds in {rounds * 1e3:.2f} ms, each pair read 8 times in {reads * 1e3:.2f} ms, "

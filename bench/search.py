@@ -7,7 +7,7 @@ runs it, and prints one line for each measurement. Needs `rt` on the path and `/
 import shutil
 import tempfile
 
-from built import built, fewest
+from built import built, quickest
 from nets import generated, nets
 from weighing import weighing
 
@@ -153,10 +153,10 @@ FILES = {
 def tell(program, title, budget, heavy, packages, states, free=0, codes=()):
     """Prints how a search of the world ends, and what it takes, of so many that they take about a second."""
     world = (budget, *heavy, packages, states, free, *codes)
-    made, _ = fewest(program, 0, *world)
-    once, printed = fewest(program, 1, *world)
+    made, _, _ = quickest(program, 0, *world)
+    once, _, printed = quickest(program, 1, *world)
     times = max(1, min(1000, int(1 / max(once - made, 0.001))))
-    seconds = (fewest(program, times, *world)[0] - made) / times
+    seconds = (quickest(program, times, *world)[0] - made) / times
     outcome, nodes, first = printed.split()
     first = f"; the first {first} branch on free packages" if free else ""
     print(f"{title}: {outcome} after {nodes} nodes in {seconds * 1e3:.3f} ms, {int(nodes) / seconds:.0f} a second{first}", flush=True)
