@@ -1,8 +1,8 @@
+mod Meanings
 pub mod Cuts
+pub mod Ends
+pub mod Machines
 pub mod NumberReads
 pub mod PartReads
-pub mod Machines
-pub mod SpecReads
-pub mod Ends
 pub mod RangeReads
-pub mod Places
+pub mod SpecReads

@@ -1,5 +1,6 @@
--- What a text means as a specifier or as a range, as functions of the text: the value, or the first bad place. The
--- grammars of Specifiers and Ranges say which texts have a value, and `IsFirstBadOf` which place is the first bad one.
+-- What a text means as a specifier or as a range, as functions of the text: the value, or the first bad place. They are
+-- what the grammars of Specifiers and Ranges say, and `IsFirstBadOf` of the place: the laws
+-- `specifier_meaning_is_the_grammars` and `range_meaning_is_the_grammars`.
 --     specifier_meant text   the parts of a specifier, or the length of the longest front with which one begins
 --     range_meant text       the bounds of a range, or the length of the longest front with which one begins
 use Rattle.std.specs.Prelude.{◌≡◌, ℕ, List, Result, Err}

@@ -1,5 +1,5 @@
 -- The machine of Stages knows the version texts, and what follows for `read`.
-use Rattle.std.proofs.Common.{◌≡◌, ℕ, false, List, [], ◌∷◌, ◌++◌, Some, None, Result, Ok, Err, refl, ap, sym, ◌∙◌, subst, inl, inr}
+use Rattle.std.proofs.Common.{◌≡◌, ◌↔◌, ℕ, false, List, [], ◌∷◌, ◌++◌, Some, None, Result, Ok, Err, refl, ap, sym, ◌∙◌, subst, inl, inr}
 use Rattle.std.specs.Option.{option_and_then}
 use Rattle.std.specs.Result.{IfOk, IfErr, MatchResult}
 use Rattle.std.specs.List.{list_all}
@@ -7,6 +7,7 @@ use Rattle.std.proofs.lemmas.Bool.{cond-false, and_right}
 use Rattle.std.proofs.lemmas.List.Folds.{list_all-append}
 use Rattle.std.proofs.lemmas.Option.{none-some, same_Some}
 use Rattle.jl_versions.specs.Machine.{run, Accepts, IsFirstBadOf, stopped_first_bad, unended_first_bad, ended_meant, unended_meant, stopped_meant}
+use Rattle.jl_versions.specs.FirstBad.{Ends, value_meant, place_meant}
 use Rattle.jl_versions.specs.Words.{is_digit}
 use Rattle.jl_versions.specs.Pieces.{ident_of}
 use Rattle.jl_versions.specs.Stages.{step, finish, labelled}
@@ -99,3 +100,22 @@ told_meant text (Err (BadVersion place)) (inr open_end) =
 pub reads_meant : (text : List ℕ) (v : Version) → Reads text v → version_meant text ≡ Ok v
 unfolding version_meant
 reads_meant text v means = let (stage, stands, end) = knows.from text (v, means) in ended_meant step finish Fresh stage text v stands (reads_ended text stage v stands means)
+
+-- ---- what the function of texts means is the grammar's
+
+end_stages : Ends finish IsEnd
+unfolding IsEnd
+end_stages = record { to = λ stage v e. (v, e); not_at = λ stage none end. none-some end.0 (sym none ∙ end.1) }
+
+-- a version exactly where the text reads as it
+pub version_is_read : (text : List ℕ) (v : Version) → (version_meant text ≡ Ok v) ↔ Reads text v
+unfolding version_meant
+version_is_read text v = (
+  λ e. gives_reads text v (give_is_run Fresh text ∙ (value_meant step finish Fresh text v).0 e),
+  λ means. (value_meant step finish Fresh text v).1 (sym (give_is_run Fresh text) ∙ reads_gives text v means),
+)
+
+-- a place exactly where it is the first bad one
+pub place_is_first_bad : (text : List ℕ) (place : ℕ) → (version_meant text ≡ Err place) ↔ IsFirstBadOf IsVersionText text place
+unfolding version_meant
+place_is_first_bad text place = place_meant finish end_stages knows text place

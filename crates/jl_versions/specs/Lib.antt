@@ -1,3 +1,4 @@
+pub mod FirstBad
 pub mod Grammar
 pub mod Machine
 pub mod Meant

@@ -1,5 +1,5 @@
--- What a version text means, as a function of the text. That this is the grammar's meaning is promised beside it, by
--- `Reads` and `IsFirstBadOf`.
+-- What a version text means, as a function of the text. It is the grammar's meaning, a version exactly where `Reads` has
+-- it and else the first bad place: the law `meaning_is_the_grammars`.
 use Rattle.std.specs.Prelude.{◌≡◌, ℕ, List, Result, Err}
 use Rattle.jl_versions.specs.Machine.{meant_by}
 use Rattle.jl_versions.specs.Stages.{step, finish}

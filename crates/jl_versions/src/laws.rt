@@ -1,9 +1,10 @@
 //! Laws of versions, each a function with an empty body whose contract is the law.
 
-ghost use Rattle.std.specs.Prelude.{◌≡◌, ◌↔◌, ◌⊎◌, ℕ, List, Ok, true};
+ghost use Rattle.std.specs.Prelude.{◌≡◌, ◌↔◌, ◌⊎◌, ℕ, List, Ok, Err, true};
 ghost use Rattle.std.specs.declared.cmp.Ordering.TheVariants.{Less, Equal};
 ghost use Rattle.jl_versions.specs.declared.version.Version.{Version};
-ghost use Rattle.jl_versions.specs.Grammar.{Reads};
+ghost use Rattle.jl_versions.specs.Grammar.{Reads, IsVersionText};
+ghost use Rattle.jl_versions.specs.Machine.{IsFirstBadOf};
 ghost use Rattle.jl_versions.specs.Meant.{version_meant};
 ghost use Rattle.jl_versions.specs.Order.{IsBelow};
 ghost use Rattle.jl_versions.specs.Printing.{IsVersion, printed};
@@ -30,6 +31,14 @@ pub fn order_is_total()
 pub fn text_means_one_version()
     ensures one { (text : List ℕ) (v w : Version) → Reads text v → Reads text w → v ≡ w }
     ensures meant { (text : List ℕ) (v : Version) → Reads text v → version_meant text ≡ Ok v }
+{}
+
+/// What a text means as a function is what the grammar of version texts says of it: the version that
+/// it reads as, exactly where it reads as one, and else the length of its longest front that begins a
+/// version text.
+pub fn meaning_is_the_grammars()
+    ensures version { (text : List ℕ) (v : Version) → (version_meant text ≡ Ok v) ↔ Reads text v }
+    ensures place { (text : List ℕ) (place : ℕ) → (version_meant text ≡ Err place) ↔ IsFirstBadOf IsVersionText text place }
 {}
 
 /// The printed text of a version means that version. So what is printed reads again as it was.

@@ -1,7 +1,7 @@
 -- Of two first bad places neither is earlier.
 use Rattle.compat_spec.specs.Specifiers.{IsSpecifier}
 use Rattle.compat_spec.specs.Ranges.{IsRange}
-use Rattle.compat_spec.proofs.Places.{one_place}
+use Rattle.jl_versions.specs.FirstBad.{one_place}
 use Rattle.compat_spec.proofs.laws.one_first_bad_place.Goals as goal
 
 pub returns-clause-specifier : goal.returns-clause-specifier
