@@ -1,7 +1,6 @@
 -- What the functions of texts mean is what the grammars say.
-use Rattle.std.proofs.Common.{◌≡◌, ◌↔◌, ℕ, List, Option, None, Some, Ok, Err, refl, sym, ◌∙◌}
+use Rattle.std.proofs.Common.{◌≡◌, ◌↔◌, ℕ, List, Option, Some, Ok, Err, refl, sym, ◌∙◌}
 use Rattle.std.specs.Prelude.{IsSome}
-use Rattle.std.specs.Option.{option_and_then}
 use Rattle.jl_versions.specs.Machine.{IsFirstBadOf}
 use Rattle.jl_versions.specs.FirstBad.{Ends, value_meant, place_meant}
 use Rattle.compat_spec.specs.declared.part.Part.{Part}

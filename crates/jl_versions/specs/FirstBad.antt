@@ -2,7 +2,7 @@
 --     one_place           a text has at most one first bad place
 --     value_meant         `meant_by` gives a value exactly where the machine runs to an end with it
 --     place_meant         `meant_by` gives a place exactly where that is the first bad place of P
-use Rattle.std.specs.Prelude.{◌≡◌, ℕ, suc, ◌+◌, ◌<◌, ◌≤◌, ◌↔◌, List, [], ◌∷◌, ◌++◌, length, take, Option, None, Some, Result, Ok, Err, refl}
+use Rattle.std.specs.Prelude.{◌≡◌, ℕ, suc, ◌+◌, ◌<◌, ◌≤◌, ◌↔◌, List, [], ◌∷◌, ◌++◌, length, take, Option, None, Some, Ok, Err, refl}
 use Rattle.std.specs.Option.{option_and_then}
 use Rattle.std.proofs.Common.{sym, ◌∙◌, ap, subst, arith, get_or, drop, inl, inr, append_assoc}
 use Rattle.std.proofs.lemmas.Bool.{cases_order}
