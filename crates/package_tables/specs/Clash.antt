@@ -1,6 +1,7 @@
 -- A clash in a table with sections (own rule): two sections hold one version and give one name different values. It is
--- looked for at the least version, and there at the least name by its bytes. It carries the entry of the first section
--- that gives the version the name, and the first later one whose value differs.
+-- looked for at the first listed version, the least where versions rise, and there at the least name by its bytes. It
+-- carries the entry of the first section that gives the version the name, and the first later one whose value differs.
+-- ClashLaws says this without the groups and loops below.
 --     clash_in same versions entries     the clash of a table, where there is one
 use Rattle.std.specs.Prelude.{ℕ, Bool, true, false, not, ◌&&◌, if◌then◌else◌, List, [], ◌∷◌, ◌++◌, map, filter, fold, find, Option, Some, None, option_map}
 use Rattle.std.specs.List.{flat_map, list_any}
@@ -62,7 +63,7 @@ module _ {T : Type 0} (same : T → T → Bool) where
   clash_at v [] = None
   clash_at v (group ∷ more) = or_later (differing same v group) (clash_at v more)
 
-  -- the least version at which a name clashes
+  -- the first listed version at which a name clashes
   abbrev pub clash_among : List VersionRow → List (List (Entry T)) → Option (Clashing T)
   clash_among [] gs = None
   clash_among (row ∷ rows) gs = or_later (option_map (λ p. (row.version, p.0, p.1)) (clash_at row.version gs)) (clash_among rows gs)

@@ -1,5 +1,5 @@
 -- The row of a version: what the sections whose ranges hold it say of its dependencies and compat (Pkg, registries; the
--- order of the lists and which entries are ignored are own rules).
+-- order of the lists and which entries are ignored are own rules). RowLaws says which names stand there with which value.
 --     deps_of, weak_of, compat_of rows v     its dependencies, its weak dependencies and its compat, each in the order of names
 use Rattle.std.specs.Prelude.{◌≡◌, ℕ, Bool, true, false, not, ◌&&◌, ◌||◌, List, [], ◌∷◌, ◌++◌, map, filter, fold, codes, Option, Some, None}
 use Rattle.std.specs.Ordering.{nat_cmp, bool_cmp, ordering_then}

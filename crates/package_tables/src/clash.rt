@@ -55,7 +55,7 @@ pub(crate) fn clash_in<T: SectionValue>(
     }
 }
 
-/// The least version at which a name clashes.
+/// The first listed version at which a name clashes.
 fn clash_among<'a, T: SectionValue>(
     versions: &'a [VersionRow],
     lists: &[Group<'a, T>],

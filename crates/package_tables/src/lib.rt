@@ -6,6 +6,7 @@ mod entries;
 mod expanding;
 mod groups;
 mod kept_ranges;
+pub mod laws;
 mod name_ref;
 mod own_table;
 mod package_rows;

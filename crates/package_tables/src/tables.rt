@@ -32,7 +32,8 @@ pub fn version_rows(alloc: Global, table: &Table) -> Result<VersionRows, Halt>
 ///
 /// Errors: Refused, exactly where the table is refused, with the first refusal in key order: BadSpec of a heading that is no
 /// range, and BadShape of a value that is no identifier; then as Clash, where two sections that hold a listed version give
-/// one name different values (an own rule); want of memory.
+/// one name different values (an own rule), of the first listed version that has such a name and there of the least one;
+/// want of memory.
 pub fn id_entries(alloc: Global, versions: &[VersionRow], table: &Table) -> Result<IdEntries, Halt>
     ensures { spec.GivesList (spec.id_entries versions.now (table_view table.now)) result }
 {
