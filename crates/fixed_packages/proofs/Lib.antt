@@ -1,2 +1,4 @@
+pub mod AsRegistry
+pub mod ConsultedLemmas
 mod FirstCounts
 mod Stopped

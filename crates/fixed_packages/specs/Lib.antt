@@ -1,4 +1,6 @@
 pub mod Candidates
+pub mod Consulted
+pub mod Faults
 pub mod Firsts
 pub mod FixedPackages
 pub mod Given

@@ -3,6 +3,7 @@
 
 mod basis;
 mod candidate;
+mod fault;
 mod fixed;
 mod given;
 pub mod laws;
@@ -11,5 +12,6 @@ mod named_ids;
 mod order;
 mod reading;
 
+pub use fault::as_registry_fault;
 pub use fixed::{FixedPackages, fixed_in};
 pub use given::{Given, GivenParts};

@@ -5,6 +5,7 @@ ghost use Rattle.project_places.specs.Active.{file_in as file_meant};
 ghost use Rattle.fixed_packages.specs.FixedPackages as spec;
 
 use crate::basis::Basis;
+use crate::fault::as_registry_fault;
 use crate::given::{Given, of_project};
 use manifest_file::Origin;
 use pkg_world::{Cause, Name, NormPath, Store};
@@ -70,8 +71,6 @@ fn of_file<S: Store>(
     match project_at(alloc, store, &file) {
         Ok(Some(project)) => Ok(of_project(alloc, name, origin, project)),
         Ok(None) => Err(RegFault::MissingFile(file)),
-        Err(EnvFault::ReadFault(path)) => Err(RegFault::ReadFault(path)),
-        Err(EnvFault::BadFile(path, cause)) => Err(RegFault::BadFile(path, cause)),
-        Err(EnvFault::Memory) => Err(RegFault::Memory),
+        Err(fault) => Err(as_registry_fault(fault)),
     }
 }

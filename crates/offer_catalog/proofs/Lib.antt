@@ -1,2 +1,5 @@
+mod ConsultedLemmas
 mod FixedFound
 mod InOrder
+mod NamedFound
+mod StanzasFound

@@ -1,5 +1,7 @@
 pub mod Answers
 pub mod Catalogued
+pub mod Consulted
+pub mod Laws
 pub mod Named
 pub mod SaidCatalog
 pub mod Selected

@@ -4,12 +4,7 @@ use Rattle.pkg_world.specs.declared.place.Home.{Home}
 use Rattle.registry_tables.specs.Registry.{Registered}
 use Rattle.standard_libraries.specs.Libraries.{ById}
 use Rattle.offer_terms.specs.Demanded.{FixedSaid}
-use Rattle.offer_terms.specs.Offered.{Exts}
-
--- the tree of a stanza, and the extensions that the stanza has for it
-pub record SaidTree : Type 0 where
-  pub tree : List ℕ
-  pub extensions : Exts
+use Rattle.package_offers.specs.TreeExts.{TreeExts}
 
 -- the paths of the project's two files; the registries, in their order; the standard libraries by their identifiers; the
 -- fixed packages in the order of theirs; the trees of the manifest's stanzas, by the identifiers of the packages
@@ -18,4 +13,4 @@ pub record SaidCatalog : Type 0 where
   pub registries : List Registered
   pub libraries : ById
   pub fixed : List FixedSaid
-  pub trees : List (List ℕ × SaidTree)
+  pub trees : List (List ℕ × TreeExts)

@@ -1,14 +1,13 @@
 //! The catalog of a command.
 ghost use Rattle.std.specs.Prelude.{◌≡◌, map, option_map, option_copied};
-ghost use Rattle.std.specs.Option.{option_and_then};
 ghost use Rattle.package_tables.specs.Row.{value_of};
 ghost use Rattle.offer_terms.specs.Demanded.{fixed_said};
-ghost use Rattle.offer_catalog.specs.Trees.{extensions_of};
 
 use crate::trees::Trees;
 use jl_versions::Version;
 use offer_terms::FixedList;
-use pkg_world::{ExtList, Home, Listed, TreeId};
+use package_offers::TreeExtensions;
+use pkg_world::{Home, Listed};
 use registered_offers::LoadedRegistry;
 use standard_libraries::{Libraries, Library};
 use std::marker::Model;
@@ -113,14 +112,10 @@ impl Catalog {
         }
     }
 
-    /// The extensions that the manifest's stanza has for that tree of that package, where there is such a stanza. Takes no
-    /// memory.
-    pub fn extensions(&self, uuid: &Uuid, tree: &TreeId) -> Option<&ExtList>
-        ensures { option_map (λ list. list.items) (option_copied result) ≡ extensions_of self.now.trees uuid.now tree.now }
+    /// The tree of the manifest's stanza of that package, with the extensions that the stanza has for it. Takes no memory.
+    pub fn tree_extensions(&self, uuid: &Uuid) -> Option<&TreeExtensions>
+        ensures { option_copied result ≡ value_of uuid.now self.now.trees }
     {
-        match self.trees.get(uuid) {
-            Some(found) => found.extensions_of(tree),
-            None => None,
-        }
+        self.trees.get(uuid)
     }
 }

@@ -14,6 +14,7 @@ pub(crate) fn fixed_list(alloc: Global, packages: FixedPackages) -> Result<Fixed
     ensures { IfOk result (λ list. map fixed_said list.items ≡ map spec.fixed_of packages.entries) }
 {
     let mut list = Listed::make(alloc);
+    // The call tells the proof that the identifiers rise.
     let _count = packages.len();
     let mut left = packages;
     'packages: while let Some(entry) = left.pop_first() {

@@ -4,6 +4,7 @@
 mod catalog;
 mod fault;
 mod fixed_list;
+pub mod laws;
 mod loading;
 mod manifest_selection;
 mod name_ids;

@@ -10,11 +10,10 @@ use crate::catalog::Catalog;
 use crate::fault::BookFault;
 use crate::fixed_list::fixed_list;
 use crate::trees::trees_of;
-use fixed_packages::{FixedPackages, fixed_in};
+use fixed_packages::{FixedPackages, as_registry_fault, fixed_in};
 use manifest_file::Manifest;
 use pkg_world::{Duplicate, Home, Listed, Place, Store};
 use project_file::Project;
-use project_places::EnvFault;
 use registered_offers::{LoadedRegistry, registries_in};
 use registry_tables::{RegFault, registries};
 use standard_libraries::{Libraries, libraries_in};
@@ -184,8 +183,6 @@ fn with_libraries<S: Store>(
             registries,
             libraries,
         }),
-        Err(EnvFault::ReadFault(path)) => Err(RegFault::ReadFault(path)),
-        Err(EnvFault::BadFile(path, cause)) => Err(RegFault::BadFile(path, cause)),
-        Err(EnvFault::Memory) => Err(RegFault::Memory),
+        Err(fault) => Err(as_registry_fault(fault)),
     }
 }

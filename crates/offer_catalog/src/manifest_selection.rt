@@ -117,6 +117,7 @@ fn selection_of(alloc: Global, versions: Versions) -> Result<Selection, AllocErr
     ensures { IfOk result (λ selection. selection.items ≡ versions.entries) }
 {
     let mut list = Listed::make(alloc);
+    // The call tells the proof that the identifiers rise.
     let _count = versions.len();
     let mut left = versions;
     'versions: while let Some(entry) = left.pop_first() {

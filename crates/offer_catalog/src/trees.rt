@@ -1,45 +1,17 @@
 //! The extensions that a manifest's stanzas have for trees.
-ghost use Rattle.std.specs.Prelude.{◌≡◌, ◌==◌, map, fold, option_map, option_copied, if◌then◌else◌, IfOk, OnOk};
+ghost use Rattle.std.specs.Prelude.{◌≡◌, map, IfOk, OnOk};
 ghost use Rattle.manifest_file.specs.Said.{said_stanza};
 ghost use Rattle.offer_catalog.specs.Trees as spec;
 
 use manifest_file::{Origin, Stanza};
-use pkg_world::{Duplicate, ExtList, TreeId};
+use package_offers::TreeExtensions;
+use pkg_world::{Duplicate, TreeId};
 use std::alloc::{AllocError, Global};
 use std::collections::BTreeMap;
-use std::marker::Model;
 use uuid::Uuid;
 
-/// The tree of a stanza, and the extensions that the stanza has for it.
-#[derive(Drop)]
-pub(crate) struct Tree {
-    tree: TreeId,
-    extensions: ExtList,
-}
-
-impl Model for Tree {
-    ghost use Rattle.offer_catalog.specs.SaidCatalog.{SaidTree};
-
-    ghost Value = { SaidTree };
-
-    ghost view = { λ a. record { tree = a.tree; extensions = a.extensions.items } };
-}
-
-impl Tree {
-    /// The extensions, where this is the tree.
-    pub(crate) fn extensions_of(&self, tree: &TreeId) -> Option<&ExtList>
-        ensures { option_map (λ list. list.items) (option_copied result) ≡ spec.extensions_at self.now tree.now }
-    {
-        if self.tree == *tree {
-            Some(&self.extensions)
-        } else {
-            None
-        }
-    }
-}
-
 /// The trees of stanzas, by the identifiers of their packages.
-pub(crate) type Trees = BTreeMap<Uuid, Tree>;
+pub(crate) type Trees = BTreeMap<Uuid, TreeExtensions>;
 
 /// The trees of these stanzas. The one error is want of memory.
 pub(crate) fn trees_of(alloc: Global, stanzas: &[Stanza]) -> Result<Trees, AllocError>
@@ -71,7 +43,7 @@ fn put_tree(
     ensures { OnOk result (trees.new.entries ≡ spec.put_tree trees.old.entries (said_stanza stanza.now) tree) }
 {
     let extensions = stanza.extensions.copy(alloc)?;
-    trees.insert(stanza.uuid, Tree { tree, extensions })?;
+    trees.insert(stanza.uuid, TreeExtensions::of(tree, extensions))?;
     Ok(())
 }
 

@@ -9,23 +9,23 @@ use std::marker::Model;
 
 /// The extensions of a tree, as the manifest's stanza of the package says them.
 #[derive(Drop)]
-pub struct TreeExtensions<'a> {
-    tree: &'a TreeId,
-    extensions: &'a ExtList,
+pub struct TreeExtensions {
+    tree: TreeId,
+    extensions: ExtList,
 }
 
-impl<'a> Model for TreeExtensions<'a> {
+impl Model for TreeExtensions {
     ghost use Rattle.package_offers.specs.TreeExts.{TreeExts};
 
     ghost Value = { TreeExts };
 
-    ghost view = { λ known. record { tree = known.tree.now; extensions = known.extensions.now.items } };
+    ghost view = { λ known. record { tree = known.tree; extensions = known.extensions.items } };
 }
 
-impl<'a> TreeExtensions<'a> {
+impl TreeExtensions {
     /// These extensions of that tree.
-    pub fn of(tree: &'a TreeId, extensions: &'a ExtList) -> TreeExtensions<'a>
-        ensures { result ≡ record { tree = tree.now; extensions = extensions.now.items } }
+    pub fn of(tree: TreeId, extensions: ExtList) -> TreeExtensions
+        ensures { result ≡ record { tree = tree; extensions = extensions.items } }
     {
         TreeExtensions { tree, extensions }
     }
@@ -34,7 +34,7 @@ impl<'a> TreeExtensions<'a> {
     fn of_tree(&self, alloc: Global, tree: &TreeId) -> Result<ExtList, AllocError>
         ensures { IfOk result (λ list. list.items ≡ spec.extensions_of (Some self.now) tree.now) }
     {
-        if *self.tree == *tree {
+        if self.tree == *tree {
             self.extensions.copy(alloc)
         } else {
             Ok(ExtList::make(alloc))

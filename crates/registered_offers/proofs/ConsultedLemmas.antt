@@ -2,7 +2,6 @@
 use Rattle.std.proofs.Common.{◌≡◌, ℕ, List, [], ◌∷◌, ◌++◌, map, codes, Option, Some, None, Result, Ok, refl, ap, ◌∙◌}
 use Rattle.toml.specs.Data.{Members}
 use Rattle.toml_view.specs.Causes.{caused}
-use Rattle.pkg_world.specs.Each.{joined_ok, read_each}
 use Rattle.pkg_world.specs.Path.{Path, joined}
 use Rattle.pkg_world.specs.Tree.{Files, holds, file_bytes}
 use Rattle.pkg_world.specs.declared.cause.Cause.{Cause}
@@ -11,6 +10,7 @@ use Rattle.package_tables.specs.Sections.{package_of as own_table}
 use Rattle.package_tables.specs.Tables.{version_rows, id_entries, range_entries}
 use Rattle.package_tables.specs.declared.package_rows.Entry.{Entry}
 use Rattle.package_tables.specs.declared.package_rows.VersionRow.{VersionRow}
+use Rattle.registry_tables.proofs.Agreeing.{all-front, all-back, each-same}
 use Rattle.registry_tables.specs.Answers.{Read, then_read, at_file, optional_of, needed_of, needed_table}
 use Rattle.registry_tables.specs.Registries.{registry_file}
 use Rattle.registry_tables.specs.Registry.{Registered, registry_of}
@@ -24,18 +24,6 @@ with_compat compat deps = then_read (λ found. Ok (record { deps = deps; compat 
 
 abbrev with_weak : Package → List VersionRow → Read Tables → Tables → Read Rows
 with_weak wanted versions weak strong = then_read (λ found. Ok (record { name = wanted.name; uuid = wanted.uuid; versions = versions; strong = strong; weak = found })) weak
-
-each-same : {S T R : Type 0} (read other : S → Result (List T) R) (x : S) (xs : List S) → read x ≡ other x → read_each read xs ≡ read_each other xs
-    → read_each read (x ∷ xs) ≡ read_each other (x ∷ xs)
-each-same read other x xs one rest = ap (λ r. joined_ok r (read_each read xs)) one ∙ ap (joined_ok (other x)) rest
-
-agree-front : (xs ys : List Path) (a b : Files) → AgreeAt (xs ++ ys) a b → AgreeAt xs a b
-agree-front [] ys a b all = tt
-agree-front (x ∷ xs) ys a b all = (all.0, agree-front xs ys a b all.1)
-
-agree-back : (xs ys : List Path) (a b : Files) → AgreeAt (xs ++ ys) a b → AgreeAt ys a b
-agree-back [] ys a b all = all
-agree-back (x ∷ xs) ys a b all = agree-back xs ys a b all.1
 
 module _ (a b : Files) where
   -- ---- one file
@@ -94,8 +82,8 @@ module _ (a b : Files) where
   tables-same [] uuid all = refl
   tables-same (registry ∷ more) uuid all =
       each-same (tables_at a uuid) (tables_at b uuid) registry more
-      (where-same registry.folder (package_of uuid registry) (agree-front (files_at uuid registry) (table_files more uuid) a b all))
-      (tables-same more uuid (agree-back (files_at uuid registry) (table_files more uuid) a b all))
+      (where-same registry.folder (package_of uuid registry) (all-front (λ path. holds path a ≡ holds path b) (files_at uuid registry) (table_files more uuid) all))
+      (tables-same more uuid (all-back (λ path. holds path a ≡ holds path b) (files_at uuid registry) (table_files more uuid) all))
 
   registry-same : (folder : Path) → holds (registry_file folder) a ≡ holds (registry_file folder) b → registry_at a folder ≡ registry_at b folder
   registry-same folder same = ap (λ r. alone (then_read (λ members. at_file (registry_file folder) (caused (registry_of folder members))) r)) (needed-same (registry_file folder) same)

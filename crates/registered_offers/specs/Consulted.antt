@@ -1,16 +1,13 @@
 -- Which files the readings of this crate consult: files that hold the same at these paths give the same.
 use Rattle.std.specs.Prelude.{◌≡◌, ℕ, List, [], ◌∷◌, ◌++◌, map, codes, Option, Some, None}
-use Rattle.std.specs.List.{flat_map, AllByRecursion}
+use Rattle.std.specs.List.{flat_map}
 use Rattle.pkg_world.specs.Path.{Path, joined}
-use Rattle.pkg_world.specs.Tree.{Files, holds}
+use Rattle.pkg_world.specs.Tree.{Files}
+pub use Rattle.registry_tables.specs.Consulted.{AgreeAt}
 use Rattle.registry_tables.specs.Registries.{registry_file}
 use Rattle.registry_tables.specs.Registry.{Registered}
 use Rattle.registry_tables.specs.declared.package_list.Package.{Package}
 use Rattle.registered_offers.specs.ListedTables.{package_of, registries_in, tables_in}
-
--- the same at each of these paths
-abbrev pub AgreeAt : List Path → Files → Files → Type 0
-AgreeAt paths one other = AllByRecursion (λ path. holds path one ≡ holds path other) paths
 
 -- the files in a package's folder
 abbrev pub package_files : Path → List Path

@@ -26,7 +26,7 @@ registries_in files folders = read_each (registry_at files) folders
 
 -- the package of an identifier, as a registry lists it
 abbrev pub package_of : List ℕ → Registered → Option Package
-package_of uuid registry = find (λ wanted. bytes_eq wanted.uuid uuid) registry.packages
+package_of uuid registry = find (λ wanted. bytes_eq uuid wanted.uuid) registry.packages
 
 -- the tables in a package's folder. A package whose path rises above the root has no file, and the registry's folder is told.
 abbrev pub tables_inside : Files → Path → Package → Option Path → Read (List Rows)

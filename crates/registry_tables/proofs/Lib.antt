@@ -1,3 +1,6 @@
 mod Adding
+pub mod Agreeing
+mod Listing
+pub mod Ordered
 mod Packages
 mod RegistryOrders

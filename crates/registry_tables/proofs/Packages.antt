@@ -3,7 +3,6 @@ use Rattle.std.proofs.Common.{◌≡◌, ℕ, Bool, List, [], ◌∷◌, ◌++�
 use Rattle.toml.specs.View.{view, members_view}
 use Rattle.toml_view.specs.declared.refusal.Refusal.{Refusal}
 use Rattle.toml_view.specs.declared.refusal.Stop.{Stop}
-use Rattle.toml_view.specs.declared.refusal.Stop.TheVariants.{Refused, Memory as StopMemory}
 use Rattle.toml_view.specs.Answers.{Refuses as StopRefuses}
 use Rattle.toml_view.specs.Causes.{caused}
 use Rattle.toml_view.specs.Reading.{at, chained, mapped}
@@ -16,49 +15,28 @@ use Rattle.registry_tables.specs.Answers.{Read, then_read, at_file, needed_table
 use Rattle.registry_tables.specs.Registries.{registry_file}
 use Rattle.registry_tables.specs.declared.fault.RegFault.{RegFault}
 use Rattle.registry_tables.specs.declared.package_list.Registry.{Registry}
-use Rattle.registry_tables.specs.Identifiers.{has, Adds}
-use Rattle.registry_tables.specs.declared.seen.Seen.{Seen}
-use Rattle.registry_tables.specs.Registry.{is_among, package_of, packages_of_members, registry_of, registry_in, Registered, LoadsRegistry}
+use Rattle.registry_tables.specs.Packages.{is_listed}
+use Rattle.registry_tables.specs.Registry.{package_of, packages_of_members, registry_of, registry_in, Registered, LoadsRegistry}
 use Rattle.registry_tables.specs.declared.package_list.Package.{Package}
 
--- the identifiers of the earlier keys, with one more
-pub among-next : (earlier : List (List ℕ)) (id : List ℕ) (old new : Seen) → ((other : List ℕ) → has old other ≡ is_among earlier other) → Adds id old new
-    → (other : List ℕ) → has new other ≡ is_among (id ∷ earlier) other
-among-next earlier id old new same added other = rw (added other, same other)
-
--- what is read at a key
-pub at-earlier : (folder : Path) (earlier : List (List ℕ)) (seen : List ℕ → Bool) (e : TomlEntry) (found : Package) → ((other : List ℕ) → seen other ≡ is_among earlier other)
-    → at (string_bytes e.0) (package_of folder seen (string_bytes e.0) (view e.1)) ≡ Ok found → at (string_bytes e.0) (package_of folder (is_among earlier) (string_bytes e.0) (view e.1)) ≡ Ok found
-at-earlier folder earlier seen e found same there =
-    let tests : seen ≡ is_among earlier = λ i other. same other i in
-    ap (λ t. at (string_bytes e.0) (package_of folder t (string_bytes e.0) (view e.1))) (sym tests) ∙ there
-
 -- one package more
-pub packages-next : (folder : Path) (earlier : List (List ℕ)) (done : List Package) (found : Package) (entries rest : List TomlEntry) (e : TomlEntry)
-    (whole : Result (List Package) Refusal) → entries ≡ e ∷ rest → at (string_bytes e.0) (package_of folder (is_among earlier) (string_bytes e.0) (view e.1)) ≡ Ok found
-    → whole ≡ onto done (packages_of_members folder earlier (members_view entries))
-    → whole ≡ onto (done ++ found ∷ []) (packages_of_members folder (found.uuid ∷ earlier) (members_view rest))
-packages-next folder earlier done found entries rest e whole iter there same =
-    same ∙ ap (λ t. onto done (packages_of_members folder earlier (members_view t))) iter
-    ∙ ap (λ r. onto done (chained (λ p. mapped (λ ps. p ∷ ps) (packages_of_members folder (p.uuid ∷ earlier) (members_view rest))) r)) there
-    ∙ onto_next done found (packages_of_members folder (found.uuid ∷ earlier) (members_view rest))
-
-refused-as : {T : Type 0} (stop : Stop) (one other : Result T Refusal) → other ≡ one → StopRefuses stop one → StopRefuses stop other
-refused-as (Refused refusal) one other same refused = same ∙ refused
-refused-as StopMemory one other same refused = tt
+pub packages-next : (folder : Path) (done : List Package) (found : Package) (entries rest : List TomlEntry) (e : TomlEntry) (whole : Result (List Package) Refusal) → entries ≡ e ∷ rest
+    → at (string_bytes e.0) (package_of folder (is_listed done) (string_bytes e.0) (view e.1)) ≡ Ok found
+    → whole ≡ onto done (packages_of_members folder done (members_view entries))
+    → whole ≡ onto (done ++ found ∷ []) (packages_of_members folder (done ++ found ∷ []) (members_view rest))
+packages-next folder done found entries rest e whole iter there same =
+    same ∙ ap (λ t. onto done (packages_of_members folder done (members_view t))) iter
+    ∙ ap (λ r. onto done (chained (λ p. mapped (λ ps. p ∷ ps) (packages_of_members folder (done ++ p ∷ []) (members_view rest))) r)) there
+    ∙ onto_next done found (packages_of_members folder (done ++ found ∷ []) (members_view rest))
 
 -- a package that is refused
-pub refused-next : (stop : Stop) (folder : Path) (earlier : List (List ℕ)) (seen : List ℕ → Bool) (done : List Package) (entries rest : List TomlEntry) (e : TomlEntry)
-    (whole : Result (List Package) Refusal) → entries ≡ e ∷ rest → ((other : List ℕ) → seen other ≡ is_among earlier other)
-    → StopRefuses stop (at (string_bytes e.0) (package_of folder seen (string_bytes e.0) (view e.1)))
-    → whole ≡ onto done (packages_of_members folder earlier (members_view entries)) → StopRefuses stop whole
-refused-next stop folder earlier seen done entries rest e whole iter same refused all =
-    let tests : is_among earlier ≡ seen = λ i other. sym (same other) i in
-    let here = refused-as stop _ (at (string_bytes e.0) (package_of folder (is_among earlier) (string_bytes e.0) (view e.1)))
-    (ap (λ t. at (string_bytes e.0) (package_of folder t (string_bytes e.0) (view e.1))) tests) refused in
-    refuses_whole stop (at (string_bytes e.0) (package_of folder (is_among earlier) (string_bytes e.0) (view e.1)))
-    (λ p. mapped (λ ps. p ∷ ps) (packages_of_members folder (p.uuid ∷ earlier) (members_view rest))) done whole here
-    (all ∙ ap (λ t. onto done (packages_of_members folder earlier (members_view t))) iter)
+pub refused-next : (stop : Stop) (folder : Path) (done : List Package) (entries rest : List TomlEntry) (e : TomlEntry) (whole : Result (List Package) Refusal) → entries ≡ e ∷ rest
+    → StopRefuses stop (at (string_bytes e.0) (package_of folder (is_listed done) (string_bytes e.0) (view e.1)))
+    → whole ≡ onto done (packages_of_members folder done (members_view entries)) → StopRefuses stop whole
+refused-next stop folder done entries rest e whole iter refused all =
+    refuses_whole stop (at (string_bytes e.0) (package_of folder (is_listed done) (string_bytes e.0) (view e.1)))
+    (λ p. mapped (λ ps. p ∷ ps) (packages_of_members folder (done ++ p ∷ []) (members_view rest))) done whole refused
+    (all ∙ ap (λ t. onto done (packages_of_members folder done (members_view t))) iter)
 
 -- the registry of a folder's file
 pub registry-loads : (files : Option Files) (folder file : Path) (known : Members) (answer : Result Registry RegFault) → file ≡ registry_file folder

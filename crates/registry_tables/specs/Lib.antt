@@ -1,6 +1,8 @@
 pub mod Answers
+pub mod Consulted
+pub mod Lasts
+pub mod Packages
 pub mod Registries
-pub mod Identifiers
 pub mod Registry
 pub mod RegistryKeys
 pub mod Rows

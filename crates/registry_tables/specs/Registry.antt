@@ -1,8 +1,6 @@
 -- What the file of a registry says (Pkg, Registry.toml): the registry's name and identifier, and its packages by their
 -- identifiers. Other keys are ignored; the first refusal in key order counts.
-use Rattle.std.specs.Prelude.{◌≡◌, ℕ, Bool, if◌then◌else◌, List, [], ◌∷◌, codes, Some, None, option_map, Result, Ok, MatchResult}
-use Rattle.std.specs.List.{list_any}
-use Rattle.std.specs.Str.{bytes_eq}
+use Rattle.std.specs.Prelude.{◌≡◌, ℕ, Bool, if◌then◌else◌, List, [], ◌∷◌, ◌++◌, codes, Some, None, option_map, Result, Ok, MatchResult}
 use Rattle.toml.specs.Data.{Data, Members, no_members, member, as_table}
 use Rattle.uuid.specs.Text.{parsed}
 use Rattle.toml_view.specs.Reading.{text_of, uuid_of, or_shape, chained, mapped, at, need}
@@ -13,6 +11,7 @@ use Rattle.toml_view.specs.declared.refusal.Stop.{Stop}
 use Rattle.pkg_world.specs.Path.{Path, joined}
 use Rattle.pkg_world.specs.Tree.{Files}
 use Rattle.registry_tables.specs.Answers.{Read, then_read, at_file, needed_table, Refuses}
+use Rattle.registry_tables.specs.Packages.{is_listed}
 use Rattle.registry_tables.specs.Registries.{registry_file}
 use Rattle.registry_tables.specs.declared.fault.RegFault.{RegFault}
 use Rattle.registry_tables.specs.declared.package_list.Package.{Package}
@@ -24,10 +23,6 @@ pub record Registered : Type 0 where
   pub name : List ℕ
   pub uuid : List ℕ
   pub packages : List Package
-
--- whether an identifier is one of these
-abbrev pub is_among : List (List ℕ) → List ℕ → Bool
-is_among uuids uuid = list_any (λ other. bytes_eq other uuid) uuids
 
 -- an identifier that no earlier key has
 abbrev pub unless_earlier : (List ℕ → Bool) → List ℕ → Result (List ℕ) Refusal
@@ -54,11 +49,11 @@ abbrev pub package_of : Path → (List ℕ → Bool) → List ℕ → Data → R
 package_of folder is_earlier key value =
     chained (λ uuid. chained (package_of_members folder uuid) (or_shape (as_table value))) (key_of is_earlier key)
 
--- the packages of a table, with the identifiers of the keys before it
-abbrev pub packages_of_members : Path → List (List ℕ) → Members → Result (List Package) Refusal
+-- the packages of a table, with those of the keys before it
+abbrev pub packages_of_members : Path → List Package → Members → Result (List Package) Refusal
 packages_of_members folder earlier no_members = Ok []
 packages_of_members folder earlier (member key value more) =
-    chained (λ found. mapped (λ rest. found ∷ rest) (packages_of_members folder (found.uuid ∷ earlier) more)) (at key (package_of folder (is_among earlier) key value))
+    chained (λ found. mapped (λ rest. found ∷ rest) (packages_of_members folder (earlier ++ found ∷ []) more)) (at key (package_of folder (is_listed earlier) key value))
 
 abbrev pub packages_of : Path → Data → Result (List Package) Refusal
 packages_of folder value = chained (packages_of_members folder []) (or_shape (as_table value))
@@ -83,7 +78,7 @@ registry_in files folder = then_read (λ members. at_file (registry_file folder)
 
 -- what a registry that was read stands for
 abbrev pub registered : Registry → Registered
-registered registry = record { folder = registry.folder; name = registry.name; uuid = registry.uuid; packages = registry.packages.items }
+registered registry = record { folder = registry.folder; name = registry.name; uuid = registry.uuid; packages = registry.packages }
 
 abbrev pub LoadsRegistry : Read Registered → Result Registry RegFault → Type 0
 LoadsRegistry reading answer = MatchResult answer (λ registry. reading ≡ Ok (registered registry)) (Refuses reading)

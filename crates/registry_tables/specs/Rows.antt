@@ -99,7 +99,7 @@ rows_of_package files registry (Some wanted) = some_rows (rows_from files regist
 
 -- the package of an identifier
 abbrev pub package_named : Registry → List ℕ → Option Package
-package_named registry uuid = find (λ wanted. bytes_eq wanted.uuid uuid) registry.packages.items
+package_named registry uuid = find (λ wanted. bytes_eq uuid wanted.uuid) registry.packages
 
 abbrev pub rows_in : Files → Registry → List ℕ → Read (Option Rows)
 rows_in files registry uuid = rows_of_package files registry (package_named registry uuid)

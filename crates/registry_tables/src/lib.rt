@@ -11,7 +11,6 @@ mod reading;
 mod registry;
 pub mod registry_laws;
 mod section_files;
-mod seen;
 mod version_file;
 
 pub use depots::registries;

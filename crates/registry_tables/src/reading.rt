@@ -51,11 +51,7 @@ pub fn rows<S: Store>(
 fn package_named<'a>(registry: &'a Registry, uuid: &Uuid) -> Option<&'a Package>
     ensures { option_copied result ≡ spec.package_named registry.now uuid.now }
 {
-    registry
-        .packages
-        .items()
-        .iter()
-        .find(|wanted| wanted.uuid == *uuid)
+    registry.packages.get(uuid)
 }
 
 /// The tables of a listed package.

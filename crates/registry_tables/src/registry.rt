@@ -1,5 +1,5 @@
 //! Reading a registry's own file.
-ghost use Rattle.std.specs.Prelude.{◌≡◌, ◌≤◌, [], IfSome, IfOk, IfErr};
+ghost use Rattle.std.specs.Prelude.{◌≡◌, ◌≤◌, [], false, IfSome, IfOk, IfErr};
 ghost use Rattle.toml.specs.View.{view, table_view};
 ghost use Rattle.toml_view.specs.Reading.{at};
 ghost use Rattle.toml_view.specs.Causes.{caused};
@@ -8,13 +8,12 @@ ghost use Rattle.package_tables.specs.Sections.{Gives};
 ghost use Rattle.registry_tables.specs.Answers.{at_file, NoReadFault, ReadFaultRose};
 ghost use Rattle.registry_tables.specs.Registry as spec;
 ghost use Rattle.registry_tables.specs.Registry.{LoadsRegistry, GivesRegistry};
-ghost use Rattle.registry_tables.specs.Identifiers.{has, Adds};
+ghost use Rattle.registry_tables.specs.Packages.{is_listed};
 
 use crate::fault::RegFault;
 use crate::file::{needed_table, refused_at};
-use crate::package_list::{Package, Registry};
-use crate::seen::Seen;
-use pkg_world::{Duplicate, Listed, Name, NormPath, PathFault, Store, Values};
+use crate::package_list::{Package, PackageList, Registry};
+use pkg_world::{Duplicate, Name, NormPath, PathFault, Store};
 use std::alloc::Global;
 use toml_view::{
     NameReader, Reader, Stop, Table, UuidReader, Value, halted, identifier, need, other_shape,
@@ -76,11 +75,11 @@ fn read_registry(alloc: Global, folder: &NormPath, table: &Table) -> Result<Regi
         folder: folder.copy(alloc)?,
         name,
         uuid,
-        packages: packages.into_list(),
+        packages,
     })
 }
 
-fn packages_at(alloc: Global, folder: &NormPath, table: &Table) -> Result<Values<Package>, Stop>
+fn packages_at(alloc: Global, folder: &NormPath, table: &Table) -> Result<PackageList, Stop>
     ensures read { Gives result (spec.packages_at folder.now (table_view table.now)) }
     ensures path { IfErr result HasPath }
 {
@@ -128,11 +127,11 @@ struct PackagesReader {
 }
 
 impl Reader for PackagesReader {
-    type Out = Values<Package>;
+    type Out = PackageList;
 
     ghost gives = { λ it value. spec.packages_of it.path.folder value };
 
-    fn read(&self, alloc: Global, value: &Value) -> Result<Values<Package>, Stop> {
+    fn read(&self, alloc: Global, value: &Value) -> Result<PackageList, Stop> {
         match value.as_table() {
             Some(table) => read_packages(alloc, &self.path, table),
             None => Err(other_shape()),
@@ -140,33 +139,32 @@ impl Reader for PackagesReader {
     }
 }
 
-fn read_packages(alloc: Global, path: &PathReader, table: &Table) -> Result<Values<Package>, Stop>
+fn read_packages(alloc: Global, path: &PathReader, table: &Table) -> Result<PackageList, Stop>
     ensures { Gives result (spec.packages_of_members path.now.folder [] (table_view table.now)) }
 {
-    let mut seen = Seen::make(alloc);
-    let mut list = Listed::make(alloc);
+    let mut list = PackageList::make(alloc);
     'members: for (key, value) in table.iter() {
-        match package_at(alloc, path, &mut seen, key.as_str(), value) {
+        match package_at(alloc, path, &list, key.as_str(), value) {
             Ok(package) => list.push(package)?,
             Err(stop) => return Err(stop),
         }
     }
-    Ok(Values::of(list))
+    Ok(list)
 }
 
 /// The package at a key, a refusal as it is seen from the table.
 fn package_at(
     alloc: Global,
     path: &PathReader,
-    seen: &mut Seen,
+    earlier: &PackageList,
     key: &str,
     value: &Value,
 ) -> Result<Package, Stop>
-    ensures read { Gives result (at key.now (spec.package_of path.now.folder (has seen.old) key.now (view value.now))) }
+    ensures read { Gives result (at key.now (spec.package_of path.now.folder (is_listed earlier.now) key.now (view value.now))) }
     ensures path { IfErr result HasPath }
-    ensures added { IfOk result (λ found. Adds found.uuid seen.old seen.new) }
+    ensures fresh { IfOk result (λ found. is_listed earlier.now found.uuid ≡ false) }
 {
-    match package_of(alloc, path, seen, key, value) {
+    match package_of(alloc, path, earlier, key, value) {
         Ok(package) => Ok(package),
         Err(stop) => Err(stop_at(alloc, key, stop)),
     }
@@ -175,14 +173,14 @@ fn package_at(
 fn package_of(
     alloc: Global,
     path: &PathReader,
-    seen: &mut Seen,
+    earlier: &PackageList,
     key: &str,
     value: &Value,
 ) -> Result<Package, Stop>
-    ensures read { Gives result (spec.package_of path.now.folder (has seen.old) key.now (view value.now)) }
-    ensures added { IfOk result (λ found. Adds found.uuid seen.old seen.new) }
+    ensures read { Gives result (spec.package_of path.now.folder (is_listed earlier.now) key.now (view value.now)) }
+    ensures fresh { IfOk result (λ found. is_listed earlier.now found.uuid ≡ false) }
 {
-    let uuid = key_of(seen, key)?;
+    let uuid = key_of(earlier, key)?;
     match value.as_table() {
         Some(table) => package_of_members(alloc, path, uuid, table),
         None => Err(other_shape()),
@@ -204,23 +202,23 @@ fn package_of_members(
 }
 
 /// The identifier that a key spells, where no earlier key spells it.
-fn key_of(seen: &mut Seen, key: &str) -> Result<Uuid, Stop>
-    ensures read { Gives result (spec.key_of (has seen.old) key.now) }
-    ensures added { IfOk result (λ uuid. Adds uuid seen.old seen.new) }
+fn key_of(earlier: &PackageList, key: &str) -> Result<Uuid, Stop>
+    ensures read { Gives result (spec.key_of (is_listed earlier.now) key.now) }
+    ensures fresh { IfOk result (λ uuid. is_listed earlier.now uuid ≡ false) }
 {
     match identifier(key) {
-        Some(uuid) => unless_seen(seen, uuid),
+        Some(uuid) => unless_listed(earlier, uuid),
         None => Err(other_shape()),
     }
 }
 
-fn unless_seen(seen: &mut Seen, uuid: Uuid) -> Result<Uuid, Stop>
-    ensures read { Gives result (spec.unless_earlier (has seen.old) uuid) }
-    ensures added { IfOk result (λ same. Adds same seen.old seen.new) }
+fn unless_listed(earlier: &PackageList, uuid: Uuid) -> Result<Uuid, Stop>
+    ensures read { Gives result (spec.unless_earlier (is_listed earlier.now) uuid) }
+    ensures fresh { IfOk result (λ same. is_listed earlier.now same ≡ false) }
 {
-    if seen.add(uuid)? {
-        Ok(uuid)
-    } else {
+    if earlier.contains(&uuid) {
         Err(other_shape())
+    } else {
+        Ok(uuid)
     }
 }

@@ -1,1 +1,3 @@
+pub mod ConsultedLemmas
+mod FirstFolder
 mod Listing

@@ -1,2 +1,4 @@
+pub mod Consulted
+pub mod Laws
 pub mod Libraries
 pub mod SaidLibrary

@@ -2,6 +2,7 @@
 #![tactic(auto)]
 
 mod children;
+pub mod laws;
 mod library;
 mod library_folder;
 
