@@ -1,2 +1,3 @@
+mod GivenLemmas
 pub mod NamedLemmas
 pub mod OfferLemmas

@@ -1,2 +1,3 @@
+pub mod GivenOffers
 pub mod RegistryOffers
 pub mod TreeExts

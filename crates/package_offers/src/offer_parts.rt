@@ -86,7 +86,7 @@ fn push_compat(
 }
 
 /// What compat on a name speaks of.
-fn compat_on(deps: &NameIds, weak: &NameIds, name: &Name) -> Option<Uuid>
+pub(crate) fn compat_on(deps: &NameIds, weak: &NameIds, name: &Name) -> Option<Uuid>
     ensures { result ≡ spec.compat_on deps.now.items weak.now.items name.now }
 {
     if name.as_str() == "julia" {
@@ -99,7 +99,7 @@ fn compat_on(deps: &NameIds, weak: &NameIds, name: &Name) -> Option<Uuid>
 }
 
 /// The identifier of a name, by halving.
-fn id_named(ids: &[(Name, Uuid)], name: &str) -> Option<Uuid>
+pub(crate) fn id_named(ids: &[(Name, Uuid)], name: &str) -> Option<Uuid>
     requires { IsTrue (is_by_name ids.now) }
     ensures { result ≡ value_of name.now ids.now }
 {

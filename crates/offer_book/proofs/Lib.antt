@@ -1,0 +1,7 @@
+mod BookLemmas
+mod GatherLemmas
+mod MentionLemmas
+mod RestLemmas
+mod SourceLemmas
+mod StepLemmas
+mod WalkLemmas

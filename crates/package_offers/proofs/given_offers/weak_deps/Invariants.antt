@@ -1,0 +1,8 @@
+-- the dependencies so far, and those to come
+use Rattle.std.proofs.Common.{◌≡◌, ◌++◌, drop}
+use Rattle.std.specs.Option.{option_copied}
+use Rattle.package_offers.specs.GivenOffers as spec
+use Rattle.package_offers.proofs.given_offers.weak_deps.Given as goal
+
+abbrev pub invariant-loop-name : goal.invariant-loop-name
+invariant-loop-name l = spec.weak_deps (option_copied l.fn.own) l.weak ≡ l.kept.items ++ spec.weak_deps (option_copied l.fn.own) (drop l.name-index l.weak)
