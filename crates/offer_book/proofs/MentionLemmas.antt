@@ -180,9 +180,9 @@ named-one ms d list u =
     → option_or (lookup (bytes_eq u) (cond m ms (ms ++ (d.1, d.0) ∷ []))) (named_in list u) ≡ option_or (lookup (bytes_eq u) ms) (named_in (d ∷ list) u)) [
       | true ↦ λ there. elim (bytes_eq u d.1) as (λ b. bytes_eq u d.1 ≡ b
           → option_or (lookup (bytes_eq u) ms) (named_in list u) ≡ option_or (lookup (bytes_eq u) ms) (option_map (λ e. e.0) (cond b (Some d) (find (λ e. bytes_eq u e.1) list)))) [
-        | true ↦ λ same. or_before (lookup (bytes_eq u) ms) (named_in list u) (Some d.0) (ap (is_mentioned ms) (same_id u d.1 same) ∙ there)
-        | false ↦ λ _. refl
-      ] refl
+            | true ↦ λ same. or_before (lookup (bytes_eq u) ms) (named_in list u) (Some d.0) (ap (is_mentioned ms) (same_id u d.1 same) ∙ there)
+            | false ↦ λ _. refl
+          ] refl
       | false ↦ λ _. ap (λ o. option_or o (named_in list u)) (lookup-append ms ((d.1, d.0) ∷ []) u)
           ∙ or_assoc_options (lookup (bytes_eq u) ms) (lookup (bytes_eq u) ((d.1, d.0) ∷ [])) (named_in list u)
           ∙ ap (option_or (lookup (bytes_eq u) ms)) (last_or d list u)

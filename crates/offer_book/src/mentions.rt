@@ -53,11 +53,7 @@ fn mention_all(
     Ok(())
 }
 
-fn mention_extra(
-    alloc: Global,
-    mentions: &mut Mentions,
-    extra: &[Uuid],
-) -> Result<(), AllocError>
+fn mention_extra(alloc: Global, mentions: &mut Mentions, extra: &[Uuid]) -> Result<(), AllocError>
     ensures { OnOk result (mentions.new.entries ≡ spec.mention_all mentions.old.entries (map spec.unnamed extra.now)) }
 {
     for uuid in extra {

@@ -38,5 +38,5 @@ pub returns-in_ok-mention_offers-in-Some-clause-next : goal.returns-in_ok-mentio
 returns-in_ok-mention_offers-in-Some-clause-next g c = (
   count-more c.args.book.now _ _ c.args.number c.requires.number c.in-Ok.ensures.one,
   first-more c.args.book.now _ c.args.mentions.now.entries _ (deps_offered (map offering c.offers.result.now)) c.args.number _ c.requires.number c.requires.first
-  (sym (c.in-Some.ensures.entry ∙ ap (λ es. slice_get es c.args.number) c.as_slice.ensures.entries)) c.in-Ok.ensures.one c.in_ok-mention_offers-in-Some.ensures,
+      (sym (c.in-Some.ensures.entry ∙ ap (λ es. slice_get es c.args.number) c.as_slice.ensures.entries)) c.in-Ok.ensures.one c.in_ok-mention_offers-in-Some.ensures,
 )

@@ -1,0 +1,13 @@
+pub mod Ranks
+pub mod Orders
+pub mod Clauses
+pub mod Numbers
+pub mod Exits
+pub mod VerdictLaws
+pub mod Changes
+pub mod RaiseLemmas
+pub mod NeedLemmas
+pub mod OpenLemmas
+pub mod OfferSearch
+pub mod TakenFirst
+pub mod Triples

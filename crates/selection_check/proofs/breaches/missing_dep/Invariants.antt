@@ -1,0 +1,9 @@
+-- No package so far lacks a dependency.
+use Rattle.std.proofs.Common.{ℕ, ◌<◌}
+use Rattle.offer_terms.specs.Offered.{Id}
+use Rattle.offer_terms.specs.Booked.{package_at, book_offers}
+use Rattle.selection_check.specs.Breaches.{LacksDep}
+use Rattle.selection_check.proofs.breaches.missing_dep.Given as goal
+
+abbrev pub invariant-loop-package : goal.invariant-loop-package
+invariant-loop-package l = (q : ℕ) → q < l.package → (d : Id) → LacksDep (book_offers l.book) l.selection.items (package_at l.book q).uuid d → ⊥

@@ -1,0 +1,10 @@
+pub mod Order
+pub mod Breaches
+pub mod Verdicts
+pub mod Raises
+pub mod Laws
+pub mod Scratch
+pub mod Found
+pub mod Needing
+pub mod Opening
+pub mod Passing
