@@ -1,0 +1,3 @@
+mod Keyed
+mod Placed
+mod Said

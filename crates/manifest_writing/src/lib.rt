@@ -1,0 +1,10 @@
+//! The manifest that is written of a selection: for each selected package what the manifest says of it.
+#![tactic(auto)]
+
+mod laws;
+mod manifest;
+mod order;
+mod stanza;
+
+pub use laws::{selection_is_said, stanzas_rise, stanzas_say_offers};
+pub use manifest::{FoundExtensions, written};
