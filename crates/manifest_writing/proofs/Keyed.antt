@@ -1,8 +1,7 @@
 -- Maps with texts in their keys, seen as plain lists.
-use Rattle.std.proofs.Common.{◌≡◌, ℕ, Bool, true, false, cond, ◌||◌, bytes_eq, List, [], ◌∷◌, ◌++◌, map, String, Global, string_bytes, string_cmp, Option, Some, None, option_map, Less, Equal, Greater, refl, ap, ◌∙◌}
-use Rattle.std.specs.BTreeMap.{insert_entry, is_at}
+use Rattle.std.proofs.Common.{◌≡◌, true, false, cond, ◌||◌, bytes_eq, List, [], ◌∷◌, ◌++◌, map, String, Global, string_bytes, string_cmp, Option, Some, None, option_map, Less, Equal, Greater, refl, ap}
+use Rattle.std.specs.BTreeMap.{insert_entry}
 use Rattle.std.specs.List.{filter_map, cons_option, list_any}
-use Rattle.std.specs.Map.{lookup}
 use Rattle.std.specs.Option.{option_to_list}
 use Rattle.std.specs.Ordering.{is_eq, match_ordering, ordering_then}
 use Rattle.std.specs.declared.cmp.Ordering.{Ordering}

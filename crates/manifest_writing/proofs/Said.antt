@@ -1,8 +1,8 @@
 -- What a written manifest says.
-use Rattle.std.proofs.Common.{◌≡◌, ℕ, zero, suc, ◌<◌, Bool, true, false, cond, ◌||◌, ◌&&◌, true≢false, List, [], ◌∷◌, length, map, find, Option, Some, None, is_some, IsSome, option_map, Contains, bytes_eq, Less, Equal, Greater, refl, sym, ap, ◌∙◌, subst, arith}
+use Rattle.std.proofs.Common.{◌≡◌, ℕ, zero, suc, Bool, true, false, cond, ◌||◌, ◌&&◌, true≢false, List, [], ◌∷◌, map, find, Option, Some, None, is_some, IsSome, option_map, Contains, bytes_eq, Less, Equal, Greater, refl, sym, ap, ◌∙◌, subst, arith}
 use Rattle.std.specs.BTreeMap.{is_at}
 use Rattle.std.specs.Cmp.{tied_itself}
-use Rattle.std.specs.List.{AllByRecursion, filter_map, cons_option}
+use Rattle.std.specs.List.{AllByRecursion, cons_option}
 use Rattle.std.specs.List.Sorted.{IsStrictlySortedBy}
 use Rattle.std.specs.Map.{lookup, keys_of}
 use Rattle.std.specs.Option.{option_and_then}
@@ -13,14 +13,13 @@ use Rattle.std.proofs.lemmas.Slice.Eq.{bytes_eq-Decides}
 use Rattle.jl_versions.specs.declared.version.Version.{Version}
 use Rattle.package_tables.specs.Row.{by_bytes}
 use Rattle.manifest_file.specs.Saying.{SaidStanza, first_again}
-use Rattle.manifest_file.specs.Written.{are_by_name, is_not_above}
+use Rattle.manifest_file.specs.Written.{are_by_name}
 use Rattle.manifest_file.specs.ReadsBack.{StandOnce}
-use Rattle.offer_terms.specs.ById.{AreRising}
 use Rattle.offer_terms.specs.Booked.{Packed, book_offers}
 use Rattle.offer_terms.specs.Demanded.{Wanted}
 use Rattle.offer_terms.specs.Offered.{Id, Offering, Selected, version_in, offer_at}
-use Rattle.manifest_writing.specs.Laws.{key_of, StanzasRise, IsOnBook, SelectionIsSaid, SaysAnOffer, StanzasSayOffers}
-use Rattle.manifest_writing.specs.Writing.{Found, Key, by_key, name_in, with_name, is_pinned, in_order, stanza_of, stanza_at, stanzas_of, written}
+use Rattle.manifest_writing.specs.Laws.{key_of, StanzasRise, SelectionIsSaid, SaysAnOffer, StanzasSayOffers}
+use Rattle.manifest_writing.specs.Writing.{Found, Key, by_key, name_in, with_name, is_pinned, in_order, stanza_of, stanzas_of, written}
 use Rattle.manifest_writing.proofs.Placed.{key_total, exact_key, in_order_rises, all-in_order, selected_there, each_found}
 
 module _ (book : List Packed) (pinned : Id → Bool) (found : Found) where

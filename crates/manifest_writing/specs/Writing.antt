@@ -1,7 +1,7 @@
 -- What a manifest says of a selection (Pkg, Manifest.toml, format 2.0): Julia's version, and a stanza for each selected package
 -- in the order of their names and identifiers.
 --     written book demand found selected     the manifest
-use Rattle.std.specs.Prelude.{ℕ, Bool, List, [], map, find, Option, Some, None, option_map, unwrap_or}
+use Rattle.std.specs.Prelude.{Bool, List, [], map, find, Option, Some, None, option_map, unwrap_or}
 use Rattle.std.specs.List.{list_any, filter_map}
 use Rattle.std.specs.Ordering.{ordering_then}
 use Rattle.std.specs.Str.{bytes_eq}

@@ -1,4 +1,4 @@
-use Rattle.std.proofs.Common.{◌≡◌, List, Option, Some, None, option_map, unwrap_or, IfOk, sym, ap, ◌∙◌, subst}
+use Rattle.std.proofs.Common.{◌≡◌, List, Option, option_map, unwrap_or, IfOk, sym, ap, ◌∙◌, subst}
 use Rattle.pkg_world.specs.Listing.{Listing}
 use Rattle.offer_terms.specs.Offered.{Text, Exts}
 use Rattle.manifest_writing.proofs.Keyed.{found-said}
