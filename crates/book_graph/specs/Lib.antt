@@ -1,0 +1,6 @@
+pub mod StandsFor
+pub mod Limits
+pub mod Chosen
+pub mod Fielded
+pub mod Laws
+pub mod Building
