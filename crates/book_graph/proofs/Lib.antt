@@ -1,0 +1,4 @@
+mod Steps
+mod Ids
+mod States
+mod Pairs

@@ -2,7 +2,6 @@
 #![tactic(auto)]
 
 mod barring;
-mod fields;
 mod forbidding;
 mod laws;
 mod making;
@@ -10,11 +9,12 @@ mod numbers;
 mod rules;
 mod selecting;
 mod sizes;
+mod weighing;
 
-pub use fields::fields;
 pub use laws::{
     feasible_is_solution, finished_is_best, need_is_dependency, need_is_reach, none_is_feasible,
     one_solution, raise_is_raise, solution_is_feasible, stands_plain, sums_are_one,
 };
 pub use making::make_instance;
 pub use selecting::selection_of;
+pub use weighing::fields;

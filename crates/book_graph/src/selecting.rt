@@ -65,7 +65,7 @@ fn put_version(
 
 /// These versions as a selection.
 fn listed(alloc: Global, versions: Versions) -> Result<Selection, AllocError>
-    ensures { IfOk result (λ selection. selection.items ≡ versions.entries) }
+    ensures items { IfOk result (λ selection. selection.items ≡ versions.entries) }
     ensures rising { IfOk result (λ selection. AreRising (keys_of selection.items)) }
 {
     let mut list = Listed::make(alloc);
