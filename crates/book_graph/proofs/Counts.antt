@@ -1,5 +1,5 @@
 -- How many states the packages so far have.
-use Rattle.std.proofs.Common.{◌≡◌, ℕ, ◌+◌, ◌<◌, ◌≤◌, List, [], ◌∷◌, length, map, get_or, take, sum, refl, sym, ap, ◌∙◌, subst, inl, inr, arith}
+use Rattle.std.proofs.Common.{◌≡◌, ℕ, ◌+◌, ◌<◌, ◌≤◌, List, [], ◌∷◌, length, map, get_or, take, sum, refl, sym, ap, ◌∙◌, subst, inl, inr, arith, ◌-◌, ◌^◌}
 use Rattle.std.specs.Prelude.{min}
 use Rattle.std.specs.List.Sorted.{IsStrictlySortedBy}
 use Rattle.std.proofs.Math.Nat.{min-eq_left, min-eq_right}
@@ -44,3 +44,22 @@ versions_map (o ∷ offers) = ap (λ vs. o.version ∷ vs) (versions_map offers)
 
 pub rising_offers : (book : List Packed) (p : ℕ) (offers : List Offer) → map offering offers ≡ (package_at book p).offers → DoRise offers → IsStrictlySortedBy version_cmp (map (λ x. x.version) (package_at book p).offers)
 rising_offers book p offers is rising = subst (λ vs. IsStrictlySortedBy version_cmp vs) (sym (versions_map offers) ∙ ap (map (λ x. x.version)) is) rising
+
+-- each package has a state
+pub some_states : (book : List Packed) (sizes : List ℕ) → sizes ≡ sizes_of book → (p : ℕ) → p < length sizes → 0 < get_or sizes p 0
+some_states book sizes is p inside =
+    let known : p < length book = omega (arith, inside, ap length is, length-map book state_count) in
+    omega (arith, ap (λ xs. get_or xs p 0) is, count_at book p known)
+
+-- a count within a limit is the whole
+pub within_total : (sizes : List ℕ) (total : ℕ) → total ≡ min (sum sizes) (2 ^ 64 - 1) → total ≤ 65536 → sum sizes ≤ 65536
+within_total sizes total is small = elim (cases_lt (sum sizes) (2 ^ 64 - 1)) [
+  | inl l ↦ omega (arith, small, is ∙ min-eq_left {n = sum sizes} {m = 2 ^ 64 - 1} (omega (arith, l)))
+  | inr l ↦ absurd (omega (arith, small, is ∙ min-eq_right {n = 2 ^ 64 - 1} {m = sum sizes} l))
+]
+
+pub past_total : (sizes : List ℕ) (total : ℕ) → total ≡ min (sum sizes) (2 ^ 64 - 1) → 65536 < total → 65536 < sum sizes
+past_total sizes total is past = elim (cases_lt (sum sizes) (2 ^ 64 - 1)) [
+  | inl l ↦ omega (arith, past, is ∙ min-eq_left {n = sum sizes} {m = 2 ^ 64 - 1} (omega (arith, l)))
+  | inr l ↦ omega (arith, l)
+]

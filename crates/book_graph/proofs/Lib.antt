@@ -6,3 +6,4 @@ mod Counts
 mod Made
 mod Triples
 mod Selected
+mod Weights

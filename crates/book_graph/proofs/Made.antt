@@ -1,15 +1,15 @@
 -- The instance in which all this is forbidden stands for the book and the demand.
-use Rattle.std.proofs.Common.{◌≡◌, ℕ, ◌+◌, ◌<◌, ◌≤◌, ◌^◌, true, true≢false, ◌⊎◌, ◌↔◌, List, length, map, get_or, sum, refl, sym, ap, ◌∙◌, subst, inl, inr, arith}
+use Rattle.std.proofs.Common.{◌≡◌, ℕ, ◌+◌, ◌<◌, ◌≤◌, ◌^◌, true, true≢false, ◌⊎◌, ◌↔◌, List, length, map, get_or, sum, Result, Ok, Err, IfOk, IfErr, OnOk, refl, sym, ap, ◌∙◌, subst, inl, inr, arith}
 use Rattle.std.proofs.lemmas.List.{length-map}
 use Rattle.pkg_world.specs.declared.cause.LimitKind.TheVariants.{Packages, States, Bits, Cells, TreeDepth, TreeFiles}
 use Rattle.offer_terms.specs.Booked.{Packed, package_at}
 use Rattle.offer_terms.specs.Demanded.{Wanted}
-use Rattle.version_graph.specs.Graph.{Graph, packages, states, is_barred, is_forbidden, bits, cells, IsOpen, SameGraph}
-use Rattle.version_graph.specs.Answers.{SumsPass, IsMemory}
+use Rattle.version_graph.specs.Graph.{Graph, packages, states, is_barred, is_forbidden, IsOpen, SameGraph}
+use Rattle.version_graph.specs.Answers.{SumsPass}
 use Rattle.version_graph.specs.declared.fault.GraphFault.{GraphFault}
 use Rattle.version_graph.specs.declared.fault.GraphFault.TheVariants.{Limit, Memory}
 use Rattle.book_graph.specs.StandsFor.{id_of, offer_in, sizes_of, state_count, Shuts, Excludes, StandsFor}
-use Rattle.book_graph.specs.Limits.{SaysOfOne, IsPast, Fits}
+use Rattle.book_graph.specs.Limits.{IsPast}
 use Rattle.book_graph.specs.Building.{IsSized, Bars, Forbids, IsShut, AreExcluded}
 use Rattle.book_graph.proofs.Counts.{count_at, few_offers}
 
@@ -30,7 +30,7 @@ module _ (book : List Packed) (w : Wanted) (a b c d : Graph) (sized : IsSized bo
       | inl before ↦ absurd (true≢false (sym before ∙ open_.barred p i))
       | inr shut ↦ shut.shut
     ],
-    λ shuts. same.barred p i ∙ forbids.alike p i ∙ bars.adds.whole (p, i) (record { known = known; state = state; shut = shuts })
+    λ shuts. same.barred p i ∙ forbids.alike p i ∙ bars.adds.whole (p, i) (record { known = known; state = state; shut = shuts }),
   )
 
   forbidden : (p i q j : ℕ) → p < length book → i < state_count (package_at book p) → q < length book → j < state_count (package_at book q) → (p ≡ q → ⊥) →
@@ -43,7 +43,7 @@ module _ (book : List Packed) (w : Wanted) (a b c d : Graph) (sized : IsSized bo
     λ e. same.forbidden p i q j ∙ forbids.adds.whole (p, i, q, j) (elim e [
       | inl x ↦ inl (record { first = first; apart = ne; other = record { known = second; state = second_state; excluded = x } })
       | inr x ↦ inr (record { first = second; apart = λ e. ne (sym e); other = record { known = first; state = first_state; excluded = x } })
-    ])
+    ]),
   )
 
   pub stands_from : StandsFor book w d
@@ -66,6 +66,16 @@ past_sums book w g (Limit Cells n) stands past = record { graph = g; stands = st
 past_sums book w g (Limit TreeDepth n) stands past = absurd past
 past_sums book w g (Limit TreeFiles n) stands past = absurd past
 
-pub only_memory : (book : List Packed) (w : Wanted) (fault : GraphFault) → IsMemory fault → IsPast book w fault
-only_memory book w Memory is = tt
-only_memory book w (Limit kind n) is = absurd is
+-- ---- by the answer
+
+pub if_ok : {T E : Type 0} (r : Result T E) (P Q : T → Type 0) → ((x : T) → P x → Q x) → IfOk r P → IfOk r Q
+if_ok (Ok x) P Q f is = f x is
+if_ok (Err e) P Q f is = tt
+
+pub on_ok : {T E : Type 0} (r : Result T E) (P Q : Type 0) → (P → Q) → OnOk r P → OnOk r Q
+on_ok (Ok x) P Q f is = f is
+on_ok (Err e) P Q f is = tt
+
+pub if_err : {T E : Type 0} (r : Result T E) (P Q : E → Type 0) → ((e : E) → P e → Q e) → IfErr r P → IfErr r Q
+if_err (Ok x) P Q f is = tt
+if_err (Err e) P Q f is = f e is

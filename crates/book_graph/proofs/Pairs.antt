@@ -97,7 +97,7 @@ pub forbids_among : (old new : Graph) (p i q : ℕ) (offers : List Offering) (te
 forbids_among old new p i q offers test n past b = forbids_like old new (UpTo (with_place p i q offers test) n) (IsWith p i (IsAmong q offers test)) b
     (λ x u. record { first = u.here.first; first_state = u.here.first_state; other = u.here.other.among })
     (λ x a. let u = all_among q offers test n past (x.2, x.3) a.other in
-        record { place = u.place; below = u.below; here = record { first = a.first; first_state = a.first_state; other = u.here } })
+    record { place = u.place; below = u.below; here = record { first = a.first; first_state = a.first_state; other = u.here } })
 
 -- ---- another package of the book
 
@@ -105,10 +105,14 @@ pub forbids_offered : (old new : Graph) (book : List Packed) (u : Id) (p i q : �
     ((y : Offering) → test y ≡ told y) → Forbids old new (IsWith p i (IsAmong q offers test)) → Forbids old new (IsFrom p i (IsOffered book u told))
 forbids_offered old new book u p i q offers test told number ne is alike b =
     forbids_like old new (IsWith p i (IsAmong q offers test)) (IsFrom p i (IsOffered book u told)) b
-    (λ x a. record { first = a.first; first_state = a.first_state; apart = λ e. ne (sym a.other.package_is ∙ e);
-        other = offered_to book u q offers told number is (x.2, x.3) (record { package_is = a.other.package_is; offer = a.other.offer; there = a.other.there; passes = sym (alike a.other.offer) ∙ a.other.passes }) })
+    (λ x a. record {
+      first = a.first;
+      first_state = a.first_state;
+      apart = λ e. ne (sym a.other.package_is ∙ e);
+      other = offered_to book u q offers told number is (x.2, x.3) (record { package_is = a.other.package_is; offer = a.other.offer; there = a.other.there; passes = sym (alike a.other.offer) ∙ a.other.passes });
+    })
     (λ x f. let a = among_of book u q offers told number is (x.2, x.3) f.other in
-        record { first = f.first; first_state = f.first_state; other = record { package_is = a.package_is; offer = a.offer; there = a.there; passes = alike a.offer ∙ a.passes } })
+    record { first = f.first; first_state = f.first_state; other = record { package_is = a.package_is; offer = a.offer; there = a.there; passes = alike a.offer ∙ a.passes } })
 
 pub offered_nowhere_else : (g : Graph) (book : List Packed) (u : Id) (p i : ℕ) (test : Offering → Bool) → IsNowhereElse book u p → Forbids g g (IsFrom p i (IsOffered book u test))
 offered_nowhere_else g book u p i test none = forbids_none g (IsFrom p i (IsOffered book u test)) (λ x f. f.apart (none x.2 f.other.known f.other.named))
@@ -118,7 +122,7 @@ pub forbids_absent : (old new : Graph) (book : List Packed) (u : Id) (p i q j : 
 forbids_absent old new book u p i q j number ne last b = forbids_like old new (AreThese p i q j true) (IsFrom p i (IsAbsent book u)) b
     (λ x t. record { first = t.first; first_state = t.first_state; apart = λ e. ne (sym t.second ∙ e); other = absent_to book u q number (x.2, x.3) t.second (t.second_state ∙ last) })
     (λ x f. let at = absent_of book u q number (x.2, x.3) f.other in
-        record { first = f.first; first_state = f.first_state; second = at.0; second_state = at.1 ∙ sym last; due = refl })
+    record { first = f.first; first_state = f.first_state; second = at.0; second_state = at.1 ∙ sym last; due = refl })
 
 pub absent_nowhere_else : (g : Graph) (book : List Packed) (u : Id) (p i : ℕ) → IsNowhereElse book u p → Forbids g g (IsFrom p i (IsAbsent book u))
 absent_nowhere_else g book u p i none = forbids_none g (IsFrom p i (IsAbsent book u)) (λ x f. f.apart (none x.2 f.other.known f.other.named))
@@ -169,15 +173,15 @@ module _ (book : List Packed) (p i : ℕ) (x : Offering) where
   by_either : (y : Pair) → ByOffer y → by_deps y ⊎ by_compat y
   by_either y f = elim (offer_in book y.2 y.3) as (λ (o : Option Offering). offer_in book y.2 y.3 ≡ o → Excludes (Some x) (id_of book y.2) o → by_deps y ⊎ by_compat y) [
     | None ↦ λ none (d : Depends x (id_of book y.2)). inl (record {
-        item = (d.name, id_of book y.2);
-        there = d.there;
-        here = record { first = f.first; first_state = f.first_state; apart = f.apart; other = record { known = f.other.known; named = refl; last = last_from (package_at book y.2).offers y.3 f.other.state none } };
-      })
+      item = (d.name, id_of book y.2);
+      there = d.there;
+      here = record { first = f.first; first_state = f.first_state; apart = f.apart; other = record { known = f.other.known; named = refl; last = last_from (package_at book y.2).offers y.3 f.other.state none } };
+    })
     | Some z ↦ λ there (e : IsOutside x (id_of book y.2) z.version). inr (record {
-        item = (id_of book y.2, e.entry);
-        there = e.there;
-        here = record { first = f.first; first_state = f.first_state; apart = f.apart; other = record { known = f.other.known; named = refl; offer = z; there = there; passes = ap not e.outside } };
-      })
+      item = (id_of book y.2, e.entry);
+      there = e.there;
+      here = record { first = f.first; first_state = f.first_state; apart = f.apart; other = record { known = f.other.known; named = refl; offer = z; there = there; passes = ap not e.outside } };
+    })
   ] refl f.other.excluded
 
   pub forbids_by_offer : (a b c : Graph) → Forbids a b by_deps → Forbids b c by_compat → Forbids a c ByOffer
@@ -201,7 +205,7 @@ pub forbids_of_package : (old new : Graph) (book : List Packed) (p n : ℕ) → 
 forbids_of_package old new book p n past b = forbids_like old new (UpTo (of_state book p) n) (AreExcludedOf book p) b
     (λ x u. record { first = u.here.first; apart = u.here.apart; other = subst (λ k. IsExcludedBy book (offer_in book p k) (x.2, x.3)) (sym u.here.first_state) u.here.other })
     (λ x a. let inside = excluder_inside book p x.1 (x.2, x.3) a.other in
-        record { place = x.1; below = omega (arith, inside, past); here = record { first = a.first; first_state = refl; apart = a.apart; other = a.other } })
+    record { place = x.1; below = omega (arith, inside, past); here = record { first = a.first; first_state = refl; apart = a.apart; other = a.other } })
 
 pub forbids_of_all : (old new : Graph) (book : List Packed) (n : ℕ) → n ≡ length book → Forbids old new (UpTo (AreExcludedOf book) n) → Forbids old new (AreExcluded book)
 forbids_of_all old new book n whole b = forbids_like old new (UpTo (AreExcludedOf book) n) (AreExcluded book) b

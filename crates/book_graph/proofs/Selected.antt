@@ -25,9 +25,9 @@ puts_some u v old new updates t =
     sym (by_bytes t new) ∙ updates t ∙ (λ i. cond (is_eq-slice_cmp u t i) (Some v) (by_bytes t old i)) ∙ elim (id_case t u) [
       | inl same ↦ ap (λ b. cond b (Some v) (version_in old t)) (id_itself u t (sym same.0)) ∙ sym (ap (λ b. cond b (Some v) (version_in old t)) same.1)
       | inr other ↦ (elim (id_case u t) [
-          | inl same ↦ absurd (other.0 (sym same.0))
-          | inr back ↦ ap (λ b. cond b (Some v) (version_in old t)) back.1 ∙ sym (ap (λ b. cond b (Some v) (version_in old t)) other.1)
-        ])
+        | inl same ↦ absurd (other.0 (sym same.0))
+        | inr back ↦ ap (λ b. cond b (Some v) (version_in old t)) back.1 ∙ sym (ap (λ b. cond b (Some v) (version_in old t)) other.1)
+      ])
     ]
 
 pub puts_none : (u : Id) (s : Selected) → Puts u None s s

@@ -76,7 +76,7 @@ bars_among old new p offers test n past b = bars_like old new (UpTo (IsAmongAt p
 
 -- ---- a package of the book
 
-offered_to : (book : List Packed) (u : Id) (q : ℕ) (offers : List Offering) (test : Offering → Bool) → IsNumberOf book u q → offers ≡ (package_at book q).offers → (x : State) → IsAmong q offers test x → IsOffered book u test x
+pub offered_to : (book : List Packed) (u : Id) (q : ℕ) (offers : List Offering) (test : Offering → Bool) → IsNumberOf book u q → offers ≡ (package_at book q).offers → (x : State) → IsAmong q offers test x → IsOffered book u test x
 offered_to book u q offers test number is x a = record {
   known = subst (λ k. k < length book) (sym a.package_is) number.known;
   named = ap (id_of book) a.package_is ∙ number.named;
@@ -85,7 +85,7 @@ offered_to book u q offers test number is x a = record {
   passes = a.passes;
 }
 
-among_of : (book : List Packed) (u : Id) (q : ℕ) (offers : List Offering) (test : Offering → Bool) → IsNumberOf book u q → offers ≡ (package_at book q).offers → (x : State) → IsOffered book u test x → IsAmong q offers test x
+pub among_of : (book : List Packed) (u : Id) (q : ℕ) (offers : List Offering) (test : Offering → Bool) → IsNumberOf book u q → offers ≡ (package_at book q).offers → (x : State) → IsOffered book u test x → IsAmong q offers test x
 among_of book u q offers test number is x o =
     let same = number.only x.0 o.known o.named in
     record {
@@ -102,14 +102,14 @@ bars_offered old new book u q offers test number is b = bars_like old new (IsAmo
 pub offered_nowhere : (g : Graph) (book : List Packed) (u : Id) (test : Offering → Bool) → IsNowhere book u → Bars g g (IsOffered book u test)
 offered_nowhere g book u test none = bars_none g (IsOffered book u test) (λ x o. none x.0 o.known o.named)
 
-absent_to : (book : List Packed) (u : Id) (q : ℕ) → IsNumberOf book u q → (x : State) → x.0 ≡ q → x.1 ≡ length (package_at book q).offers → IsAbsent book u x
+pub absent_to : (book : List Packed) (u : Id) (q : ℕ) → IsNumberOf book u q → (x : State) → x.0 ≡ q → x.1 ≡ length (package_at book q).offers → IsAbsent book u x
 absent_to book u q number x a b = record {
   known = subst (λ k. k < length book) (sym a) number.known;
   named = ap (id_of book) a ∙ number.named;
   last = b ∙ ap (λ k. length (package_at book k).offers) (sym a);
 }
 
-absent_of : (book : List Packed) (u : Id) (q : ℕ) → IsNumberOf book u q → (x : State) → IsAbsent book u x → (x.0 ≡ q) × (x.1 ≡ length (package_at book q).offers)
+pub absent_of : (book : List Packed) (u : Id) (q : ℕ) → IsNumberOf book u q → (x : State) → IsAbsent book u x → (x.0 ≡ q) × (x.1 ≡ length (package_at book q).offers)
 absent_of book u q number x o = let same = number.only x.0 o.known o.named in (same, o.last ∙ ap (λ k. length (package_at book k).offers) same)
 
 pub bars_absent : (old new : Graph) (book : List Packed) (u : Id) (q i : ℕ) → IsNumberOf book u q → i ≡ length (package_at book q).offers → new.sizes ≡ old.sizes →

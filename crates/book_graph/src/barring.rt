@@ -1,5 +1,5 @@
 //! The states that are forbidden alone.
-ghost use Rattle.std.specs.Prelude.{◌≡◌, ◌<◌, length, map};
+ghost use Rattle.std.specs.Prelude.{◌≡◌, ◌<◌, List, length, map};
 ghost use Rattle.jl_versions.specs.Triple.{triple_of};
 ghost use Rattle.jl_versions.specs.declared.version.Version.{Version};
 ghost use Rattle.compat_spec.specs.declared.part.Part.{Part};

@@ -3,7 +3,6 @@ ghost use Rattle.std.specs.Prelude.{◌≡◌, ◌≤◌, ◌<◌, ◌^◌, sum,
 ghost use Rattle.jl_versions.specs.Triple.{triple_of};
 ghost use Rattle.offer_terms.specs.Demanded.{wanted};
 ghost use Rattle.version_graph.specs.Graph.{IsOpen};
-ghost use Rattle.version_graph.specs.Answers.{IsMemory};
 ghost use Rattle.book_graph.specs.StandsFor.{sizes_of, StandsFor, IsBook};
 ghost use Rattle.book_graph.specs.Limits.{IsPast, Fits};
 ghost use Rattle.book_graph.specs.Building.{IsSized};
@@ -15,7 +14,7 @@ use crate::sizes::{sizes_of, state_total};
 use jl_versions::Version;
 use offer_terms::{Book, Demand};
 use pkg_world::LimitKind;
-use std::alloc::Global;
+use std::alloc::{AllocError, Global};
 use version_graph::{GraphFault, Instance, InstanceBuilder};
 
 const MOST_PACKAGES: u32 = 4096;
@@ -48,16 +47,19 @@ pub fn make_instance(alloc: Global, book: &Book, demand: &Demand) -> Result<Inst
     builder.finish(alloc)
 }
 
-/// An instance with the states of the book's packages, in which nothing is forbidden.
-fn open_builder(alloc: Global, book: &Book) -> Result<InstanceBuilder, GraphFault>
+/// An instance with the states of the book's packages, in which nothing is forbidden. No limit is passed, so the one error is
+/// want of memory.
+fn open_builder(alloc: Global, book: &Book) -> Result<InstanceBuilder, AllocError>
     requires few { length book.now ≤ 4096 }
     requires small { sum (sizes_of book.now) ≤ 65536 }
     ensures sized { IfOk result (λ builder. IsSized book.now builder) }
     ensures open { IfOk result (λ builder. IsOpen builder) }
-    ensures memory { IfErr result IsMemory }
 {
     let sizes = sizes_of(alloc, book)?;
-    InstanceBuilder::make(alloc, sizes.as_slice())
+    match InstanceBuilder::make(alloc, sizes.as_slice()) {
+        Ok(builder) => Ok(builder),
+        Err(_) => Err(AllocError),
+    }
 }
 
 /// Julia's version.

@@ -12,8 +12,8 @@ forbid_absent-requires-clause-state c = slice_get_within (package_at c.args.book
 pub forbid_refused-requires-clause-state : goal.forbid_refused-requires-clause-state
 forbid_refused-requires-clause-state c = slice_get_within (package_at c.args.book.now c.args.package).offers c.args.state (offering c.args.offer.now) c.requires.there
 
-pub returns-in_ok-forbid_refused : goal.returns-in_ok-forbid_refused
-returns-in_ok-forbid_refused c =
+pub returns : goal.returns
+returns c =
     let book = c.args.book.now in
     let mid = c.forbid_absent.new.builder in
     let new = c.forbid_refused.new.builder in

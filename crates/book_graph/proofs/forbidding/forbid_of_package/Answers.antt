@@ -13,18 +13,18 @@ loop-place-init c = forbids_begin c.args.builder.now (of_state c.args.book.now c
 
 pub forbid_of_offer-requires-clause-there : goal.forbid_of_offer-requires-clause-there
 forbid_of_offer-requires-clause-there c =
-    ap (λ offers. slice_get offers c.loop-place.place) (sym c.offers.ensures.offers)
-    ∙ mapped_at offering c.offers.result.now c.loop-place.place c.index-offers-place.result (omega arith) c.index-offers-place.is
+    ap (λ offers. slice_get offers c.loop-place.place) (sym c.offers-offers.ensures.offers)
+    ∙ mapped_at offering c.offers-offers.result.now c.loop-place.place c.index-offers-place.result (omega arith) c.index-offers-place.is
 
 pub loop-place-preserved : goal.loop-place-preserved
 loop-place-preserved c =
     forbids_next c.args.builder.now c.loop-place.builder c.forbid_of_offer.new.builder (of_state c.args.book.now c.args.package) c.loop-place.place c.loop-place.invariant
     (state_excludes c.loop-place.builder c.forbid_of_offer.new.builder c.args.book.now c.args.package c.loop-place.place (offering c.index-offers-place.result)
-    (ap (λ offers. slice_get offers c.loop-place.place) (sym c.offers.ensures.offers)
-    ∙ mapped_at offering c.offers.result.now c.loop-place.place c.index-offers-place.result (omega arith) c.index-offers-place.is)
+    (ap (λ offers. slice_get offers c.loop-place.place) (sym c.offers-offers.ensures.offers)
+    ∙ mapped_at offering c.offers-offers.result.now c.loop-place.place c.index-offers-place.result (omega arith) c.index-offers-place.is)
     c.in_ok-forbid_of_offer.ensures)
 
 pub returns : goal.returns
 returns c =
     forbids_of_package c.args.builder.now c.loop-place.builder c.args.book.now c.args.package c.loop-place.place
-    (omega (arith, c.loop-place-test.false, length-map c.offers.result.now offering, ap length c.offers.ensures.offers)) c.loop-place.invariant
+    (omega (arith, c.loop-place-test.false, length-map c.offers-offers.result.now offering, ap length c.offers-offers.ensures.offers)) c.loop-place.invariant

@@ -1,12 +1,23 @@
 use Rattle.std.proofs.Common.{◌≡◌, ◌+◌, ◌++◌, ◌∷◌, [], ◌<◌, length, map, take, get_or, refl, sym, ap, ◌∙◌, subst, arith}
 use Rattle.std.proofs.lemmas.List.{length-map, take_all, take_more}
 use Rattle.offer_terms.specs.Offered.{offering}
+use Rattle.offer_terms.specs.Booked.{package_at}
 use Rattle.book_graph.specs.StandsFor.{sizes_of, state_count}
 use Rattle.book_graph.proofs.Counts.{count_at, few_offers}
 use Rattle.book_graph.proofs.sizes.sizes_of.Goals as goal
 
+pub overflow_cast-offers : goal.overflow_cast-offers
+overflow_cast-offers c =
+    let few = few_offers c.args.book.now c.requires c.loop-package.package (omega (arith, c.loop-package-test.true, c.packages-package-end.ensures.count)) in
+    omega (arith, few, length-map c.offers.result.now offering, ap length c.offers.ensures.offers)
+
+pub overflow_add-offers : goal.overflow_add-offers
+overflow_add-offers c =
+    let few = few_offers c.args.book.now c.requires c.loop-package.package (omega (arith, c.loop-package-test.true, c.packages-package-end.ensures.count)) in
+    omega (arith, few, length-map c.offers.result.now offering, ap length c.offers.ensures.offers)
+
 pub loop-package-init : goal.loop-package-init
-loop-package-init c = refl
+loop-package-init c = c.new-sizes.ensures.items
 
 pub loop-package-preserved : goal.loop-package-preserved
 loop-package-preserved c =

@@ -19,9 +19,9 @@ loop-package-preserved c =
     let n = c.loop-package.package in
     let inv = c.loop-package.invariant in
     record {
-      total = total_more book n c.loop-package.total (length c.offers-offers.result.now) c.saturating_add.result (2 ^ 64 - 1)
+      total = total_more book n c.loop-package.total (length c.offers-offers.result.now) c.saturating_add-total.result (2 ^ 64 - 1)
           (omega (arith, c.loop-package-test.true, c.packages-package-end.ensures.count)) inv.total
-          (sym (length-map c.offers-offers.result.now offering) ∙ ap length c.offers-offers.ensures.offers) c.saturating_add.ensures;
+          (sym (length-map c.offers-offers.result.now offering) ∙ ap length c.offers-offers.ensures.offers) c.saturating_add-total.ensures;
       rising = λ p below. elim (cases_eq p n) [
         | inl same ↦ subst (λ k. IsStrictlySortedBy version_cmp (map (λ x. x.version) (package_at book k).offers)) (sym same)
             (rising_offers book n c.offers-offers.result.now c.offers-offers.ensures.offers c.offers-offers.ensures.rising)
