@@ -7,3 +7,8 @@ mod Made
 mod Triples
 mod Selected
 mod Weights
+mod Solved
+mod Reversed
+mod Reached
+mod Raised
+mod Sums
