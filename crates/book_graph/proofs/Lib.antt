@@ -6,7 +6,6 @@ mod Counts
 mod Made
 mod Triples
 mod Selected
-mod Weights
 mod Solved
 mod Reversed
 mod Reached

@@ -15,7 +15,7 @@ in_range_of : (test : ℕ → Bool) (n : ℕ) → list_any test (range_with_len 
 in_range_of test n is =
     let a = Any-from_list_any test (range_with_len 0 n) is in
     let below : a.0 < n = (let k = a.2 in omega (arith, k, length-range_with_len 0 n)) in
-    let same : a.1 ≡ a.0 = sym a.3 ∙ get_or-range_with_len 0 n a.0 a.1 below in
+    let same : a.1 ≡ a.0 = sym a.3 ∙ get_or-range_with_len 0 n a.0 a.1 below ∙ (let e : 0 + a.0 ≡ a.0 = omega arith in e) in
     (a.0, below, ap test (sym same) ∙ a.4)
 
 same_sum : (f f' : ℕ → ℕ) (n : ℕ) → ((k : ℕ) → k < n → f k ≡ f' k) → sum_below f n ≡ sum_below f' n

@@ -1,4 +1,4 @@
-//! The instance that stands for a book and a demand, the weights of its states, and the selections that its states choose.
+//! The instance that stands for a book and a demand, and the selections that its states choose.
 #![tactic(auto)]
 
 mod barring;
@@ -9,7 +9,6 @@ mod numbers;
 mod rules;
 mod selecting;
 mod sizes;
-mod weighing;
 
 pub use laws::{
     feasible_is_solution, finished_is_best, need_is_dependency, need_is_reach, none_is_feasible,
@@ -17,4 +16,3 @@ pub use laws::{
 };
 pub use making::make_instance;
 pub use selecting::selection_of;
-pub use weighing::fields;

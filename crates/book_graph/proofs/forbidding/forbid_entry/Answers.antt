@@ -11,8 +11,8 @@ pub returns-in-Some : goal.returns-in-Some
 returns-in-Some c =
     let entry = c.args.entry.now.1 in
     on-ok c.forbid_offers.result _ _
-    (λ b. forbids_offered c.args.builder.now c.forbid_offers.new.builder c.args.book.now c.args.entry.now.0 c.args.package c.args.state c.in-Some.other (map offering c.offers.result.now)
-    (λ (y : Offering). not (allowed_holds entry (triple_of y.version))) (is_refused (allows entry)) c.in-Some.ensures.0 c.in-Some.ensures.1 c.offers.ensures.offers (entry_refuses entry) b)
+    (λ b. forbids_offered c.args.builder.now c.forbid_offers.new.builder c.args.book.now c.args.entry.now.0 c.args.package c.args.state c.in-Some.other (map offering c.offers-offers.result.now)
+    (λ (y : Offering). not (allowed_holds entry (triple_of y.version))) (is_refused (allows entry)) c.in-Some.ensures.0 c.in-Some.ensures.1 c.offers-offers.ensures.offers (entry_refuses entry) b)
     c.forbid_offers.ensures
 
 pub returns-in-None : goal.returns-in-None

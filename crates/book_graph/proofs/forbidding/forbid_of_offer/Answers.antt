@@ -18,5 +18,5 @@ returns c =
     let mid = c.forbid_absent.new.builder in
     let new = c.forbid_refused.new.builder in
     forbids_by_offer book c.args.package c.args.state (offering c.args.offer.now) c.args.builder.now mid new
-    (subst (λ xs. Forbids c.args.builder.now mid (OfOne (λ (d : Text × Id). IsFrom c.args.package c.args.state (IsAbsent book d.1)) xs)) c.items.ensures c.in_ok-forbid_absent.ensures)
+    (subst (λ xs. Forbids c.args.builder.now mid (OfOne (λ (d : Text × Id). IsFrom c.args.package c.args.state (IsAbsent book d.1)) xs)) c.items.ensures.items c.in_ok-forbid_absent.ensures)
     (subst (λ xs. Forbids mid new (OfOne (λ (e : Id × Allows). IsFrom c.args.package c.args.state (IsOffered book e.0 (is_refused e.1))) (map allowing xs))) c.items-2.ensures c.in_ok-forbid_refused.ensures)

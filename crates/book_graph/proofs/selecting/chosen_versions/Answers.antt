@@ -7,15 +7,14 @@ use Rattle.book_graph.proofs.Selected.{below_none, below_more, below_all}
 use Rattle.book_graph.proofs.selecting.chosen_versions.Goals as goal
 
 pub loop-package-init : goal.loop-package-init
-loop-package-init c u = ap (λ es. version_in es u) c.new-versions.ensures.entries ∙ below_none c.args.book.now c.packages-package-end.ensures.once c.args.states.now u
+loop-package-init c u = ap (λ es. version_in es u) c.new-versions.ensures.empty ∙ below_none c.args.book.now c.packages-package-end.ensures.once c.args.states.now u
 
 pub loop-package-preserved : goal.loop-package-preserved
 loop-package-preserved c =
     let book = c.args.book.now in
     let n = c.loop-package.package in
     below_more book c.packages-package-end.ensures.once c.args.states.now n (omega (arith, c.loop-package-test.true, c.packages-package-end.ensures.count)) c.loop-package.versions.entries c.put_version.new.versions.entries
-    (subst (λ i. Puts (id_of book n) (option_map (λ x. x.version) (offer_in book n i)) c.loop-package.versions.entries c.put_version.new.versions.entries)
-    (get_or_read c.args.states.now n c.index-states-package.result (omega (arith, c.loop-package-test.true, c.packages-package-end.ensures.count, c.requires)) c.index-states-package.is 0) c.in_ok-put_version.ensures)
+    c.in_ok-put_version.ensures
     c.loop-package.invariant
 
 pub returns : goal.returns
