@@ -1,0 +1,13 @@
+mod Steps
+mod Ids
+mod States
+mod Pairs
+mod Counts
+mod Made
+mod Triples
+mod Selected
+mod Solved
+mod Reversed
+mod Reached
+mod Raised
+mod Sums
