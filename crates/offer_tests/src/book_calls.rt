@@ -1,13 +1,13 @@
 //! Books of small worlds: whose offers count, which packages are reached, and in which order.
 use crate::shown::{book_text, fault_text};
-use crate::worlds::{Lost, REGISTRY, book_of, demand_of, ids, world_in};
+use crate::worlds::{Lost, REGISTRY, book_in, ids};
 use pkg_world::{Ids, MemStore};
 use std::alloc::Global;
 use std::test::Fail;
 use store_tests::files::{File, fill, filled};
 
 /// A registry of the second depot, which lists A under another name and with other dependencies.
-const SECOND: &[File] = &[
+pub const SECOND: &[File] = &[
     (
         "/e/registries/S/Registry.toml",
         "name = \"S\"\nuuid = \"00000000-0000-4000-8000-000000000090\"\n[packages]\n00000000-0000-4000-8000-000000000003 = { name = \"Aa\", path = \"Aa\" }\n00000000-0000-4000-8000-000000000007 = { name = \"E\", path = \"E\" }\n",
@@ -27,7 +27,7 @@ const SECOND: &[File] = &[
 ];
 
 /// The standard library C without a version.
-const LIBRARY: &[File] = &[(
+pub const LIBRARY: &[File] = &[(
     "/s/C/Project.toml",
     "name = \"C\"\nuuid = \"00000000-0000-4000-8000-000000000005\"\n[deps]\nD = \"00000000-0000-4000-8000-000000000006\"\n",
 )];
@@ -39,7 +39,7 @@ const OLDER_LIBRARY: &[File] = &[(
 )];
 
 /// A folder in which C is developed.
-const FOLDER: &[File] = &[(
+pub const FOLDER: &[File] = &[(
     "/c/Project.toml",
     "name = \"Other\"\nuuid = \"00000000-0000-4000-8000-000000000050\"\nversion = \"0.3.0\"\n[deps]\nD = \"00000000-0000-4000-8000-000000000006\"\n[compat]\nD = \"1\"\njulia = \"1.10\"\nZ = \"2\"\n",
 )];
@@ -99,7 +99,7 @@ const IN_DEPS: &[File] = &[(
 )];
 
 /// C is developed, and stands in the extras.
-const IN_EXTRAS: &[File] = &[(
+pub const IN_EXTRAS: &[File] = &[(
     "/p/Project.toml",
     "[deps]\nA = \"00000000-0000-4000-8000-000000000003\"\n[extras]\nC = \"00000000-0000-4000-8000-000000000005\"\n[sources]\nC = { path = \"../c\" }\n",
 )];
@@ -234,10 +234,8 @@ fn store_of(alloc: Global, parts: &[&[File]]) -> Result<MemStore, Lost> {
 }
 
 /// The book of the project in `/p`, or why there is none.
-fn told(alloc: Global, store: &mut MemStore, extra: &Ids) -> Result<String, Lost> {
-    let world = world_in(alloc, store)?;
-    let demand = demand_of(alloc, &world)?;
-    match book_of(alloc, store, &world.catalog, &demand, extra) {
+pub fn told(alloc: Global, store: &mut MemStore, extra: &Ids) -> Result<String, Lost> {
+    match book_in(alloc, store, extra) {
         Ok(book) => Ok(book_text(alloc, &book)?),
         Err(Lost::Book(fault)) => Ok(fault_text(alloc, &fault)?),
         Err(lost) => Err(lost),

@@ -5,5 +5,9 @@
 #[cfg(test)]
 mod book_calls;
 #[cfg(test)]
+mod catalog_calls;
+#[cfg(test)]
+mod refusal_calls;
+#[cfg(test)]
 mod shown;
 pub mod worlds;

@@ -41,7 +41,8 @@ fn put_extensions(text: &mut String, offer: &Offer) -> Result<(), AllocError> {
     Ok(())
 }
 
-fn origin_word(origin: &Origin) -> &'static str {
+/// Where an offer comes from, after a space.
+pub fn origin_word(origin: &Origin) -> &'static str {
     match origin {
         Origin::Tree(_) => " tree",
         Origin::Path(_) => " path",

@@ -288,3 +288,10 @@ pub fn book_of<S: Store>(
         Err(fault) => Err(Lost::Book(fault)),
     }
 }
+
+/// The book of the project in `/p`.
+pub fn book_in<S: Store>(alloc: Global, store: &mut S, extra: &Ids) -> Result<Book, Lost> {
+    let world = world_in(alloc, store)?;
+    let demand = demand_of(alloc, &world)?;
+    book_of(alloc, store, &world.catalog, &demand, extra)
+}
