@@ -7,6 +7,8 @@ mod book_calls;
 #[cfg(test)]
 mod catalog_calls;
 #[cfg(test)]
+mod limit_calls;
+#[cfg(test)]
 mod refusal_calls;
 #[cfg(test)]
 mod shown;
