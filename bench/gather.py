@@ -9,6 +9,7 @@ Needs `rt` on the path and `/usr/bin/time`.
 """
 import os
 import shutil
+import sys
 import tempfile
 
 from built import TOP, built, quickest, write
@@ -225,11 +226,13 @@ def main():
         read = general(os.path.join(top, "world"))
         write(os.path.join(top, "list"), "".join(path + "\n" for path in read))
         world, listed = os.path.join(top, "world"), os.path.join(top, "list")
-        want = f"{REACHED + LIBRARIES} packages, {REACHED_VERSIONS + LIBRARIES} offers"
-        print(f"{len(read)} files, {sum(map(os.path.getsize, read))} bytes; at most {want}")
+        want = f"{REACHED + LIBRARIES} {REACHED_VERSIONS + LIBRARIES}"
+        print(f"{len(read)} files, {sum(map(os.path.getsize, read))} bytes; packages and offers: {want}")
         times = {}
         for what, path in (("gather", world), ("once", world), ("toml", listed), ("bytes", listed)):
             seconds, memory, last = quickest(program, what, path)
+            if path == world and last != want:
+                sys.exit(f"{what}: {last}")
             times[what] = seconds
             print(f"{what}: {seconds:.3f} s, {memory} KiB at most ({last})")
         for what in ("gather", "once"):
