@@ -1,5 +1,5 @@
 -- One identifier is in order.
-use Rattle.std.proofs.Common.{ℕ, List, [], ◌∷◌, tt}
+use Rattle.std.proofs.Common.{ℕ, List, [], ◌∷◌}
 use Rattle.std.specs.List.Sorted.{IsStrictlySortedBy}
 use Rattle.offer_terms.specs.ById.{AreRising}
 
