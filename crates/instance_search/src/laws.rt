@@ -46,7 +46,4 @@ pub fn answer_is_one()
     walk_is_one();
     one_pruning();
     one_finish();
-    pruning_keeps_solutions();
-    found_is_solution();
-    empty_is_everywhere();
 }
