@@ -1,5 +1,5 @@
 -- Renumbering the list of a tree is listing the renumbered tree.
-use Rattle.std.proofs.Common.{◌≡◌, ℕ, zero, suc, ◌+◌, ◌-◌, ◌<◌, ◌≤◌, Option, Some, None, List, [], ◌∷◌, ◌++◌, length, drop, get_or, cond, reverse, refl, sym, ◌∙◌, ap, arith}
+use Rattle.std.proofs.Common.{◌≡◌, ℕ, zero, suc, ◌+◌, ◌-◌, ◌<◌, ◌≤◌, Option, Some, None, List, [], ◌∷◌, ◌++◌, length, take, drop, get_or, cond, reverse, refl, sym, ◌∙◌, ap, arith}
 use Rattle.std.proofs.lemmas.List.{append_assoc, append-nil, reverse-append}
 use Rattle.std.proofs.lemmas.Bool.{lt-ltb, le-ltb}
 use Rattle.std.proofs.Math.Seq.{drop-cons, drop-length}
@@ -40,6 +40,15 @@ mutual
 pub moved_whole : (b : Part) (nodes : List Node) (t : Tree) → nodes ≡ preorder None t → moved_nodes b [] nodes ≡ preorder None (renumbered b t)
 moved_whole b nodes t e =
     ap (moved_nodes b []) (e ∙ sym (append-nil (preorder None t))) ∙ moved_tree b t None [] [] ∙ append-nil (preorder None (renumbered b t))
+
+-- the front of a list is renumbered as the list is
+moved_take : (b : Part) (k : ℕ) (st : Waiting) (nodes : List Node) → moved_nodes b st (take k nodes) ≡ take k (moved_nodes b st nodes)
+moved_take b zero st nodes = refl
+moved_take b (suc k) st [] = refl
+moved_take b (suc k) st (x ∷ xs) = ap (λ l. moved_node b st x ∷ l) (moved_take b k (opened x.kind (take_child st)) xs)
+
+pub moved_front : (b : Part) (nodes : List Node) (t : Tree) (k : ℕ) → nodes ≡ take k (preorder None t) → moved_nodes b [] nodes ≡ take k (preorder None (renumbered b t))
+moved_front b nodes t k e = ap (moved_nodes b []) e ∙ moved_take b k [] (preorder None t) ∙ ap (take k) (moved_whole b (preorder None t) t refl)
 
 -- one more node
 pub moved_more : (b : Part) (all out new : List Node) (st more : Waiting) (k : ℕ) (x : Node) → new ≡ out ++ moved_node b st x ∷ [] → more ≡ opened x.kind (take_child st) →

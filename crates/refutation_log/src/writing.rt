@@ -1,5 +1,5 @@
 //! Writing a log by the numbers before pruning.
-ghost use Rattle.std.specs.Prelude.{◌≡◌, ◌∷◌, ◌++◌, None, [], reverse, IfOk, OnOk};
+ghost use Rattle.std.specs.Prelude.{◌≡◌, ◌∷◌, ◌++◌, ℕ, None, [], reverse, take, IfOk, OnOk};
 ghost use Rattle.version_graph.specs.Graph.{Graph};
 ghost use Rattle.version_graph.specs.Part.{package_of, state_of};
 ghost use Rattle.graph_pruning.specs.Pruned.{Pruning, IsUnpruned};
@@ -14,11 +14,13 @@ use crate::node::{Log, Node, NodeKind};
 use std::alloc::{AllocError, Global};
 use version_graph::StateMap;
 
-/// The log with each package and each state by its number before pruning. Where its nodes are the pre-order list of a
-/// tree that refutes the pruned instance, of which nothing is pruned again, the new log refutes the instance that was
-/// pruned. Any nodes may stand in it, and they are gone through once. The one error is want of memory.
+/// The log with each package and each state by its number before pruning: where its nodes are the pre-order list of a
+/// tree, or the front of one that was cut at a budget, the new ones are that of the tree by these numbers, or as long a
+/// front. Where the tree refutes the pruned instance, of which nothing is pruned again, the new log refutes the instance
+/// that was pruned. Any nodes may stand in it, and they are gone through once. The one error is want of memory.
 pub fn renumber(alloc: Global, log: &Log, back: &StateMap) -> Result<Log, AllocError>
     ensures listed { IfOk result (λ moved. (t : Tree) → log.now.items ≡ preorder None t → moved.items ≡ preorder None (renumbered back.now t)) }
+    ensures front { IfOk result (λ moved. (t : Tree) (k : ℕ) → log.now.items ≡ take k (preorder None t) → moved.items ≡ take k (preorder None (renumbered back.now t))) }
     ensures refutes { IfOk result (λ moved. (g h : Graph) (pr own : Pruning) (t : Tree) → IsReduction g pr h back.now → IsUnpruned h own →
         log.now.items ≡ preorder None t → Refutes h own [] t → IsRefutation g moved.items) }
 {

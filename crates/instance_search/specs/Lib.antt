@@ -1,0 +1,4 @@
+pub mod Rated
+pub mod Written
+pub mod Searched
+pub mod Laws
