@@ -189,8 +189,8 @@ same-weights g h k b f e sizes a c =
         let wide : states h p ≡ states k p = ap (λ l. get_or l p 0) sizes in
         ext_get_or zero_levels (get_or f p []) (get_or e p []) (a.shape.wide p known ∙ wide ∙ sym (c.shape.wide p there))
         (λ i low.
-          let state : i < states h p = (let l = a.shape.wide p known in omega (arith, low, l)) in
-          a.each p i known state ∙ sym (c.each p i there (omega (arith, state, wide))))
+        let state : i < states h p = (let l = a.shape.wide p known in omega (arith, low, l)) in
+        a.each p i known state ∙ sym (c.each p i there (omega (arith, state, wide))))
 
 -- ---- one end
 

@@ -16,7 +16,6 @@ product-some : (f : ℕ → ℕ) → ((p : ℕ) → 1 ≤ f p) → (n : ℕ) →
 product-some f some zero = omega arith
 product-some f some (suc n) = one-le-mul (product-some f some n) (some n)
 
-
 most-some : (g : Graph) (n : ℕ) → 1 ≤ product_below (λ p. states g p + 1) n
 most-some g n = product-some (λ p. states g p + 1) (λ p. omega arith) n
 
