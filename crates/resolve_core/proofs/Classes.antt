@@ -1,0 +1,84 @@
+-- The classes that are listed so far.
+use Rattle.std.proofs.Common.{◌≡◌, ◌≢◌, ℕ, ◌+◌, ◌<◌, ◌≤◌, Bool, true, false, cond, ◌&&◌, ◌==◌, List, [], ◌∷◌, ◌++◌, length, map, filter, get_or, append-nil, refl, sym, ap, ◌∙◌, subst, inl, inr, arith}
+use Rattle.std.specs.List.{flat_map, range_with_len}
+use Rattle.std.proofs.lemmas.Bool.{eq-eqb, ne_eqb}
+use Rattle.std.proofs.lemmas.Grind.{flat_map-append}
+use Rattle.std.proofs.lemmas.List.{map-append}
+use Rattle.version_graph.specs.Graph.{Graph, packages, states, OfferedIsKnown}
+use Rattle.version_graph.specs.Family.{Family}
+use Rattle.version_graph.proofs.ListLemmas.{filter-range-more}
+use Rattle.graph_pruning.specs.Pruned.{Pruning, left}
+use Rattle.version_graph.specs.Domain.{has}
+use Rattle.version_graph.specs.Noted.{History, Holds, HeldIsOffered}
+use Rattle.graph_pruning.specs.Marked.{does_stand, standing_in, IsPruned}
+use Rattle.resolve_core.specs.Classed.{ClassSaid, class_of, classes_of, members_of, classes_in, HasStates}
+
+-- ---- members
+
+module _ (f : Family) (standing : ℕ → ℕ → ℕ) (p i : ℕ) where
+  -- a state that isn't left has no class
+  pub members_same : (s : ℕ) → f p i ≡ false → members_of f standing p (i + 1) s ≡ members_of f standing p i s
+  members_same s out =
+      filter-range-more (λ k. f p k && (standing p k == s)) i ∙ ap (λ b. members_of f standing p i s ++ cond (b && (standing p i == s)) (i ∷ []) []) out ∙ append-nil (members_of f standing p i s)
+
+  pub members_here : (s : ℕ) → f p i ≡ true → standing p i ≡ s → members_of f standing p (i + 1) s ≡ members_of f standing p i s ++ i ∷ []
+  members_here s in_ same =
+      filter-range-more (λ k. f p k && (standing p k == s)) i ∙ (λ n. members_of f standing p i s ++ cond (in_ n && eq-eqb (standing p i) s same n) (i ∷ []) [])
+
+  pub members_apart : (s : ℕ) → f p i ≡ true → s ≢ standing p i → members_of f standing p (i + 1) s ≡ members_of f standing p i s
+  members_apart s in_ ne =
+      filter-range-more (λ k. f p k && (standing p k == s)) i ∙ (λ n. members_of f standing p i s ++ cond (in_ n && ne_eqb (standing p i) s (λ e. ne (sym e)) n) (i ∷ []) [])
+      ∙ append-nil (members_of f standing p i s)
+
+-- ---- the classes of one package
+
+-- the classes of the first states of p
+abbrev pub classes_below : Family → (ℕ → ℕ → ℕ) → ℕ → ℕ → ℕ → List ClassSaid
+classes_below f standing p n s = map (class_of f standing p n) (filter (does_stand f standing p) (range_with_len 0 s))
+
+module _ (f : Family) (standing : ℕ → ℕ → ℕ) (p n s : ℕ) where
+  step : classes_below f standing p n (s + 1) ≡ classes_below f standing p n s ++ map (class_of f standing p n) (cond (does_stand f standing p s) (s ∷ []) [])
+  step = ap (map (class_of f standing p n)) (filter-range-more (does_stand f standing p) s)
+      ∙ map-append (class_of f standing p n) (filter (does_stand f standing p) (range_with_len 0 s)) (cond (does_stand f standing p s) (s ∷ []) [])
+
+  pub class_more : does_stand f standing p s ≡ true → classes_below f standing p n (s + 1) ≡ classes_below f standing p n s ++ class_of f standing p n s ∷ []
+  class_more stands = step ∙ ap (λ b. classes_below f standing p n s ++ map (class_of f standing p n) (cond b (s ∷ []) [])) stands
+
+  pub class_same : does_stand f standing p s ≡ false → classes_below f standing p n (s + 1) ≡ classes_below f standing p n s
+  class_same out = step ∙ ap (λ b. classes_below f standing p n s ++ map (class_of f standing p n) (cond b (s ∷ []) [])) out ∙ append-nil (classes_below f standing p n s)
+
+-- ---- all packages
+
+-- the classes of the first packages
+abbrev pub listed_below : Graph → Family → (ℕ → ℕ → ℕ) → (ℕ → Bool) → ℕ → List ClassSaid
+listed_below g f standing kept n = flat_map (λ p. classes_of f standing p (states g p)) (filter kept (range_with_len 0 n))
+
+module _ (g : Graph) (f : Family) (standing : ℕ → ℕ → ℕ) (kept : ℕ → Bool) (n : ℕ) where
+  abbrev row_of : ℕ → List ClassSaid
+  row_of p = classes_of f standing p (states g p)
+
+  package_step : listed_below g f standing kept (n + 1) ≡ listed_below g f standing kept n ++ flat_map row_of (cond (kept n) (n ∷ []) [])
+  package_step = ap (flat_map row_of) (filter-range-more kept n) ∙ flat_map-append row_of (filter kept (range_with_len 0 n)) (cond (kept n) (n ∷ []) [])
+
+  pub package_more : kept n ≡ true → listed_below g f standing kept (n + 1) ≡ listed_below g f standing kept n ++ row_of n
+  package_more is = package_step ∙ ap (λ b. listed_below g f standing kept n ++ flat_map row_of (cond b (n ∷ []) [])) is ∙ ap (λ r. listed_below g f standing kept n ++ r) (append-nil (row_of n))
+
+  pub package_same : kept n ≡ false → listed_below g f standing kept (n + 1) ≡ listed_below g f standing kept n
+  package_same out = package_step ∙ ap (λ b. listed_below g f standing kept n ++ flat_map row_of (cond b (n ∷ []) [])) out ∙ append-nil (listed_below g f standing kept n)
+
+pub all_listed : (g : Graph) (f : Family) (pr : Pruning) (n : ℕ) → ((p i : ℕ) → f p i ≡ left g pr p i) → n ≡ packages g → listed_below g f pr.standing pr.kept n ≡ classes_in g pr
+all_listed g f pr n same whole = (λ k. listed_below g (λ p i. same p i k) pr.standing pr.kept (whole k))
+
+-- ---- what listing the classes of a package asks
+
+pub has_states : (g : Graph) (d : List (List Bool)) (marks : List Bool) (rows : List (List ℕ)) (open_ : Bool) (t : History) → HeldIsOffered → OfferedIsKnown → Holds g d t → IsPruned g (has d) marks rows open_ →
+    (p : ℕ) → p < packages g → HasStates d rows p (states g p)
+has_states g d marks rows open_ t offered known holds pruned p inside = record {
+  known = omega (arith, inside, holds.shape.each);
+  wide = holds.shape.wide p inside;
+  listed = omega (arith, inside, pruned.shape.each);
+  long = pruned.shape.wide p inside;
+  below = λ i state here.
+      let stands = pruned.pruning.classes.stands p i (sym (pruned.domains p i) ∙ here) in
+      (known g p (standing_in rows p i) (offered g d t holds p (standing_in rows p i) (pruned.domains p (standing_in rows p i) ∙ stands.same.second))).state;
+}

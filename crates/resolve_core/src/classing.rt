@@ -1,0 +1,141 @@
+//! The classes of states that pruning makes.
+ghost use Rattle.std.specs.Prelude.{◌≡◌, ◌≢◌, ◌<◌, ◌&&◌, ◌==◌, ◌∷◌, ◌++◌, ℕ, true, [], length, map, slice_index_or, IfOk, IfErr, OnOk};
+ghost use Rattle.offer_terms.specs.Demanded.{wanted};
+ghost use Rattle.version_graph.specs.Domain.{row, has};
+ghost use Rattle.graph_pruning.specs.Marked.{does_stand, standing_in};
+ghost use Rattle.book_graph.specs.Limits.{IsPast};
+ghost use Rattle.resolve_core.specs.Classed as spec;
+
+use book_graph::make_instance;
+use graph_pruning::{Classes, prune};
+use offer_terms::{Book, Demand};
+use pkg_world::{Listed, States};
+use std::alloc::{AllocError, Global};
+use version_graph::{Domains, GraphFault, Instance, Trail, held_is_offered, offered_is_known};
+
+/// Some states of a package that allow the same states of every other package, and the greatest of them, which stands for
+/// all.
+#[derive(Drop)]
+pub struct Class {
+    pub package: u32,
+    pub standing: u32,
+    pub members: States,
+}
+
+/// The classes of kept packages, by package and then by the state that stands for the class.
+pub type ClassTable = Listed<Class>;
+
+/// The classes that pruning makes of the instance that stands for the book and the demand: those of each package that is
+/// reached from the roots. Where no selection is feasible there may be none. Refused where a limit of instances is passed, and
+/// for want of memory.
+pub fn class_table(alloc: Global, book: &Book, demand: &Demand) -> Result<ClassTable, GraphFault>
+    ensures table { IfOk result (λ table. spec.AreClassesOf book.now (wanted demand.now) table.items) }
+    ensures past { IfErr result (IsPast book.now (wanted demand.now)) }
+{
+    match make_instance(alloc, book, demand) {
+        Ok(instance) => Ok(classes_in(alloc, &instance)?),
+        Err(fault) => Err(fault),
+    }
+}
+
+/// The classes that pruning makes of the instance.
+fn classes_in(alloc: Global, instance: &Instance) -> Result<ClassTable, AllocError>
+    ensures { IfOk result (λ table. spec.AreClassesIn instance.now table.items) }
+{
+    held_is_offered();
+    offered_is_known();
+    let mut domains = Domains::full(alloc, instance)?;
+    let mut trail = Trail::make(alloc, instance)?;
+    let pruned = prune(alloc, instance, &mut domains, &mut trail)?;
+    let mut table = Listed::make(alloc);
+    for package in 0..instance.packages() {
+        if pruned.kept.has(package) {
+            let count = instance.states(package);
+            push_classes(alloc, &domains, &pruned.classes, package, count, &mut table)?;
+        }
+    }
+    Ok(table)
+}
+
+/// Adds the classes of a package, which has so many states.
+fn push_classes(
+    alloc: Global,
+    domains: &Domains,
+    classes: &Classes,
+    package: u32,
+    count: u32,
+    table: &mut ClassTable,
+) -> Result<(), AllocError>
+    requires { spec.HasStates domains.now classes.now «package» count }
+    ensures { OnOk result (map spec.class_said table.new.items ≡ map spec.class_said table.old.items ++ spec.classes_of (has domains.now) (standing_in classes.now) «package» count) }
+{
+    let members = members_of(alloc, domains, classes, package, count)?;
+    for state in 0..count {
+        if does_stand(domains, classes, package, state) {
+            let states = members[state as usize].copy(alloc)?;
+            table.push(Class {
+                package,
+                standing: state,
+                members: states,
+            })?;
+        }
+    }
+    Ok(())
+}
+
+/// Whether the state is left and stands for its class.
+fn does_stand(domains: &Domains, classes: &Classes, package: u32, state: u32) -> bool
+    requires known { «package» < length domains.now }
+    requires state { state < length (row domains.now «package») }
+    requires listed { «package» < length classes.now }
+    requires long { state < length (slice_index_or classes.now «package» []) }
+    ensures { result ≡ does_stand (has domains.now) (standing_in classes.now) «package» state }
+{
+    domains.has(package, state) && classes.standing(package, state) == state
+}
+
+/// For each state of the package the states for which it stands.
+fn members_of(
+    alloc: Global,
+    domains: &Domains,
+    classes: &Classes,
+    package: u32,
+    count: u32,
+) -> Result<Vec<States>, AllocError>
+    requires { spec.HasStates domains.now classes.now «package» count }
+    ensures each { IfOk result (λ members. length members.items ≡ count) }
+    ensures members { IfOk result (λ members. (s : ℕ) → s < count → spec.items_at members.items s ≡ spec.members_of (has domains.now) (standing_in classes.now) «package» count s) }
+{
+    let mut members = empty_lists(alloc, count)?;
+    for state in 0..count {
+        if domains.has(package, state) {
+            let standing = classes.standing(package, state);
+            add_member(&mut members, standing, state)?;
+        }
+    }
+    Ok(members)
+}
+
+/// So many empty lists.
+fn empty_lists(alloc: Global, count: u32) -> Result<Vec<States>, AllocError>
+    ensures each { IfOk result (λ lists. length lists.items ≡ count) }
+    ensures empty { IfOk result (λ lists. (s : ℕ) → s < count → spec.items_at lists.items s ≡ []) }
+{
+    let mut lists = Vec::new(alloc);
+    for _state in 0..count {
+        lists.push(States::make(alloc))?;
+    }
+    Ok(lists)
+}
+
+/// Appends the state to the list in that place.
+fn add_member(lists: &mut Vec<States>, place: u32, state: u32) -> Result<(), AllocError>
+    requires { place < length lists.old.items }
+    ensures each { length lists.new.items ≡ length lists.old.items }
+    ensures here { OnOk result (spec.items_at lists.new.items place ≡ spec.items_at lists.old.items place ++ state ∷ []) }
+    ensures others { OnOk result ((s : ℕ) → s ≢ place → spec.items_at lists.new.items s ≡ spec.items_at lists.old.items s) }
+{
+    let list = &mut lists[place as usize];
+    list.push(state)?;
+    Ok(())
+}
