@@ -1,9 +1,10 @@
 -- The classes that are listed so far.
-use Rattle.std.proofs.Common.{◌≡◌, ◌≢◌, ℕ, ◌+◌, ◌<◌, ◌≤◌, Bool, true, false, cond, ◌&&◌, ◌==◌, List, [], ◌∷◌, ◌++◌, length, map, filter, get_or, append-nil, refl, sym, ap, ◌∙◌, subst, inl, inr, arith}
+use Rattle.std.proofs.Common.{◌≡◌, ◌≢◌, ℕ, ◌+◌, ◌<◌, ◌≤◌, Bool, true, false, cond, ◌&&◌, ◌==◌, List, [], ◌∷◌, ◌++◌, length, map, filter, get_or, set, length-set, append-nil, Result, Ok, Err, IfOk, refl, sym, ap, ◌∙◌, subst, inl, inr, arith}
 use Rattle.std.specs.List.{flat_map, range_with_len}
-use Rattle.std.proofs.lemmas.Bool.{eq-eqb, ne_eqb}
+use Rattle.std.proofs.lemmas.Bool.{eq-eqb, ne_eqb, cases_lt}
 use Rattle.std.proofs.lemmas.Grind.{flat_map-append}
-use Rattle.std.proofs.lemmas.List.{map-append}
+use Rattle.std.proofs.lemmas.List.{map-append, get_or-map, get_or_past, get_or-set_same, get_or-set_other, length-map}
+use Rattle.pkg_world.specs.Listing.{Listing}
 use Rattle.version_graph.specs.Graph.{Graph, packages, states, OfferedIsKnown}
 use Rattle.version_graph.specs.Family.{Family}
 use Rattle.version_graph.proofs.ListLemmas.{filter-range-more}
@@ -11,7 +12,7 @@ use Rattle.graph_pruning.specs.Pruned.{Pruning, left}
 use Rattle.version_graph.specs.Domain.{has}
 use Rattle.version_graph.specs.Noted.{History, Holds, HeldIsOffered}
 use Rattle.graph_pruning.specs.Marked.{does_stand, standing_in, IsPruned}
-use Rattle.resolve_core.specs.Classed.{ClassSaid, class_of, classes_of, members_of, classes_in, HasStates}
+use Rattle.resolve_core.specs.Classed.{ClassSaid, class_of, classes_of, members_of, classes_below, classes_in, HasStates, items_at}
 
 -- ---- members
 
@@ -33,41 +34,37 @@ module _ (f : Family) (standing : ℕ → ℕ → ℕ) (p i : ℕ) where
 -- ---- the classes of one package
 
 -- the classes of the first states of p
-abbrev pub classes_below : Family → (ℕ → ℕ → ℕ) → ℕ → ℕ → ℕ → List ClassSaid
-classes_below f standing p n s = map (class_of f standing p n) (filter (does_stand f standing p) (range_with_len 0 s))
+abbrev pub class_list : Family → (ℕ → ℕ → ℕ) → ℕ → ℕ → ℕ → List ClassSaid
+class_list f standing p n s = map (class_of f standing p n) (filter (does_stand f standing p) (range_with_len 0 s))
 
 module _ (f : Family) (standing : ℕ → ℕ → ℕ) (p n s : ℕ) where
-  step : classes_below f standing p n (s + 1) ≡ classes_below f standing p n s ++ map (class_of f standing p n) (cond (does_stand f standing p s) (s ∷ []) [])
+  step : class_list f standing p n (s + 1) ≡ class_list f standing p n s ++ map (class_of f standing p n) (cond (does_stand f standing p s) (s ∷ []) [])
   step = ap (map (class_of f standing p n)) (filter-range-more (does_stand f standing p) s)
       ∙ map-append (class_of f standing p n) (filter (does_stand f standing p) (range_with_len 0 s)) (cond (does_stand f standing p s) (s ∷ []) [])
 
-  pub class_more : does_stand f standing p s ≡ true → classes_below f standing p n (s + 1) ≡ classes_below f standing p n s ++ class_of f standing p n s ∷ []
-  class_more stands = step ∙ ap (λ b. classes_below f standing p n s ++ map (class_of f standing p n) (cond b (s ∷ []) [])) stands
+  pub class_more : does_stand f standing p s ≡ true → class_list f standing p n (s + 1) ≡ class_list f standing p n s ++ class_of f standing p n s ∷ []
+  class_more stands = step ∙ ap (λ b. class_list f standing p n s ++ map (class_of f standing p n) (cond b (s ∷ []) [])) stands
 
-  pub class_same : does_stand f standing p s ≡ false → classes_below f standing p n (s + 1) ≡ classes_below f standing p n s
-  class_same out = step ∙ ap (λ b. classes_below f standing p n s ++ map (class_of f standing p n) (cond b (s ∷ []) [])) out ∙ append-nil (classes_below f standing p n s)
+  pub class_same : does_stand f standing p s ≡ false → class_list f standing p n (s + 1) ≡ class_list f standing p n s
+  class_same out = step ∙ ap (λ b. class_list f standing p n s ++ map (class_of f standing p n) (cond b (s ∷ []) [])) out ∙ append-nil (class_list f standing p n s)
 
 -- ---- all packages
-
--- the classes of the first packages
-abbrev pub listed_below : Graph → Family → (ℕ → ℕ → ℕ) → (ℕ → Bool) → ℕ → List ClassSaid
-listed_below g f standing kept n = flat_map (λ p. classes_of f standing p (states g p)) (filter kept (range_with_len 0 n))
 
 module _ (g : Graph) (f : Family) (standing : ℕ → ℕ → ℕ) (kept : ℕ → Bool) (n : ℕ) where
   abbrev row_of : ℕ → List ClassSaid
   row_of p = classes_of f standing p (states g p)
 
-  package_step : listed_below g f standing kept (n + 1) ≡ listed_below g f standing kept n ++ flat_map row_of (cond (kept n) (n ∷ []) [])
+  package_step : classes_below g f standing kept (n + 1) ≡ classes_below g f standing kept n ++ flat_map row_of (cond (kept n) (n ∷ []) [])
   package_step = ap (flat_map row_of) (filter-range-more kept n) ∙ flat_map-append row_of (filter kept (range_with_len 0 n)) (cond (kept n) (n ∷ []) [])
 
-  pub package_more : kept n ≡ true → listed_below g f standing kept (n + 1) ≡ listed_below g f standing kept n ++ row_of n
-  package_more is = package_step ∙ ap (λ b. listed_below g f standing kept n ++ flat_map row_of (cond b (n ∷ []) [])) is ∙ ap (λ r. listed_below g f standing kept n ++ r) (append-nil (row_of n))
+  pub package_more : kept n ≡ true → classes_below g f standing kept (n + 1) ≡ classes_below g f standing kept n ++ row_of n
+  package_more is = package_step ∙ ap (λ b. classes_below g f standing kept n ++ flat_map row_of (cond b (n ∷ []) [])) is ∙ ap (λ r. classes_below g f standing kept n ++ r) (append-nil (row_of n))
 
-  pub package_same : kept n ≡ false → listed_below g f standing kept (n + 1) ≡ listed_below g f standing kept n
-  package_same out = package_step ∙ ap (λ b. listed_below g f standing kept n ++ flat_map row_of (cond b (n ∷ []) [])) out ∙ append-nil (listed_below g f standing kept n)
+  pub package_same : kept n ≡ false → classes_below g f standing kept (n + 1) ≡ classes_below g f standing kept n
+  package_same out = package_step ∙ ap (λ b. classes_below g f standing kept n ++ flat_map row_of (cond b (n ∷ []) [])) out ∙ append-nil (classes_below g f standing kept n)
 
-pub all_listed : (g : Graph) (f : Family) (pr : Pruning) (n : ℕ) → ((p i : ℕ) → f p i ≡ left g pr p i) → n ≡ packages g → listed_below g f pr.standing pr.kept n ≡ classes_in g pr
-all_listed g f pr n same whole = (λ k. listed_below g (λ p i. same p i k) pr.standing pr.kept (whole k))
+pub all_listed : (g : Graph) (f : Family) (pr : Pruning) → ((p i : ℕ) → f p i ≡ left g pr p i) → classes_below g f pr.standing pr.kept (packages g) ≡ classes_in g pr
+all_listed g f pr same = λ k. classes_below g (λ p i. same p i k) pr.standing pr.kept (packages g)
 
 -- ---- what listing the classes of a package asks
 
@@ -82,3 +79,28 @@ has_states g d marks rows open_ t offered known holds pruned p inside = record {
       let stands = pruned.pruning.classes.stands p i (sym (pruned.domains p i) ∙ here) in
       (known g p (standing_in rows p i) (offered g d t holds p (standing_in rows p i) (pruned.domains p (standing_in rows p i) ∙ stands.same.second))).state;
 }
+
+-- ---- one list of a vector
+
+items_read : (lists : List (Listing ℕ)) (s : ℕ) (l : Listing ℕ) → s < length lists → items_at lists s ≡ (get_or lists s l).items
+items_read lists s l inside = get_or-map (λ (x : Listing ℕ). x.items) lists s l [] inside
+
+pub items_set_here : (lists : List (Listing ℕ)) (place : ℕ) (l : Listing ℕ) → place < length lists → items_at (set lists place l) place ≡ l.items
+items_set_here lists place l inside =
+    items_read (set lists place l) place l (omega (arith, inside, length-set lists place l)) ∙ ap (λ (x : Listing ℕ). x.items) (get_or-set_same lists place l l inside)
+
+pub items_set_other : (lists : List (Listing ℕ)) (place s : ℕ) (l : Listing ℕ) → s ≢ place → items_at (set lists place l) s ≡ items_at lists s
+items_set_other lists place s l ne = elim (cases_lt s (length lists)) [
+  | inl inside ↦
+      items_read (set lists place l) s l (omega (arith, inside, length-set lists place l)) ∙ ap (λ (x : Listing ℕ). x.items) (get_or-set_other lists place s l l ne) ∙ sym (items_read lists s l inside)
+  | inr past ↦
+      get_or_past (map (λ (x : Listing ℕ). x.items) (set lists place l)) s [] (omega (arith, past, length-set lists place l, length-map (set lists place l) (λ (x : Listing ℕ). x.items)))
+      ∙ sym (get_or_past (map (λ (x : Listing ℕ). x.items) lists) s [] (omega (arith, past, length-map lists (λ (x : Listing ℕ). x.items))))
+]
+
+pub items_of : (lists : List (Listing ℕ)) (place : ℕ) (l : Listing ℕ) → place < length lists → l ≡ get_or lists place l → items_at lists place ≡ l.items
+items_of lists place l inside is = items_read lists place l inside ∙ ap (λ (x : Listing ℕ). x.items) (sym is)
+
+pub if_listed : {T E : Type 0} (r : Result T E) {P Q : T → Type 0} → ((x : T) → P x → Q x) → IfOk r P → IfOk r Q
+if_listed (Ok x) f is = f x is
+if_listed (Err e) f is = tt

@@ -34,8 +34,12 @@ class_of f standing p n s = record { number = p; standing = s; members = members
 abbrev pub classes_of : Family → (ℕ → ℕ → ℕ) → ℕ → ℕ → List ClassSaid
 classes_of f standing p n = map (class_of f standing p n) (filter (does_stand f standing p) (range_with_len 0 n))
 
+-- the classes of the kept ones among the first n packages
+abbrev pub classes_below : Graph → Family → (ℕ → ℕ → ℕ) → (ℕ → Bool) → ℕ → List ClassSaid
+classes_below g f standing kept n = flat_map (λ p. classes_of f standing p (states g p)) (filter kept (range_with_len 0 n))
+
 abbrev pub classes_in : Graph → Pruning → List ClassSaid
-classes_in g pr = flat_map (λ p. classes_of (left g pr) pr.standing p (states g p)) (filter pr.kept (range_with_len 0 (packages g)))
+classes_in g pr = classes_below g (left g pr) pr.standing pr.kept (packages g)
 
 -- the table has the classes of the instance's pruning
 pub record AreClassesIn (g : Graph) (table : List Class) : Type 0 where

@@ -1,13 +1,14 @@
 //! The classes of states that pruning makes.
 ghost use Rattle.std.specs.Prelude.{◌≡◌, ◌≢◌, ◌<◌, ◌&&◌, ◌==◌, ◌∷◌, ◌++◌, ℕ, true, [], length, map, slice_index_or, IfOk, IfErr, OnOk};
 ghost use Rattle.offer_terms.specs.Demanded.{wanted};
+ghost use Rattle.version_graph.specs.Graph.{packages, states};
 ghost use Rattle.version_graph.specs.Domain.{row, has};
-ghost use Rattle.graph_pruning.specs.Marked.{does_stand, standing_in};
+ghost use Rattle.graph_pruning.specs.Marked.{marked, does_stand, standing_in};
 ghost use Rattle.book_graph.specs.Limits.{IsPast};
 ghost use Rattle.resolve_core.specs.Classed as spec;
 
 use book_graph::make_instance;
-use graph_pruning::{Classes, prune};
+use graph_pruning::{Classes, Pruned, prune};
 use offer_terms::{Book, Demand};
 use pkg_world::{Listed, States};
 use std::alloc::{AllocError, Global};
@@ -47,11 +48,25 @@ fn classes_in(alloc: Global, instance: &Instance) -> Result<ClassTable, AllocErr
     let mut domains = Domains::full(alloc, instance)?;
     let mut trail = Trail::make(alloc, instance)?;
     let pruned = prune(alloc, instance, &mut domains, &mut trail)?;
+    classes_left(alloc, instance, &domains, &pruned)
+}
+
+/// The classes of the kept packages, by what is left of their domains.
+fn classes_left(
+    alloc: Global,
+    instance: &Instance,
+    domains: &Domains,
+    pruned: &Pruned,
+) -> Result<ClassTable, AllocError>
+    requires marks { length pruned.now.kept ≡ packages instance.now }
+    requires made { (p : ℕ) → p < packages instance.now → spec.HasStates domains.now pruned.now.classes p (states instance.now p) }
+    ensures { IfOk result (λ table. map spec.class_said table.items ≡ spec.classes_below instance.now (has domains.now) (standing_in pruned.now.classes) (marked pruned.now.kept) (packages instance.now)) }
+{
     let mut table = Listed::make(alloc);
     for package in 0..instance.packages() {
         if pruned.kept.has(package) {
             let count = instance.states(package);
-            push_classes(alloc, &domains, &pruned.classes, package, count, &mut table)?;
+            push_classes(alloc, domains, &pruned.classes, package, count, &mut table)?;
         }
     }
     Ok(table)
@@ -72,15 +87,28 @@ fn push_classes(
     let members = members_of(alloc, domains, classes, package, count)?;
     for state in 0..count {
         if does_stand(domains, classes, package, state) {
-            let states = members[state as usize].copy(alloc)?;
-            table.push(Class {
-                package,
-                standing: state,
-                members: states,
-            })?;
+            push_class(alloc, package, state, &members[state as usize], table)?;
         }
     }
     Ok(())
+}
+
+/// Adds the class of the state, with these members.
+fn push_class(
+    alloc: Global,
+    package: u32,
+    standing: u32,
+    members: &States,
+    table: &mut ClassTable,
+) -> Result<(), AllocError>
+    ensures { OnOk result (map spec.class_said table.new.items ≡ map spec.class_said table.old.items ++ record { number = «package»; standing = standing; members = members.now.items } ∷ []) }
+{
+    let members = members.copy(alloc)?;
+    table.push(Class {
+        package,
+        standing,
+        members,
+    })
 }
 
 /// Whether the state is left and stands for its class.
