@@ -16,20 +16,18 @@ use Rattle.resolve_core.specs.Classed.{ClassSaid, class_of, classes_of, members_
 
 -- ---- members
 
-module _ (f : Family) (standing : ℕ → ℕ → ℕ) (p i : ℕ) where
-  -- a state that isn't left has no class
-  pub members_same : (s : ℕ) → f p i ≡ false → members_of f standing p (i + 1) s ≡ members_of f standing p i s
-  members_same s out =
-      filter-range-more (λ k. f p k && (standing p k == s)) i ∙ ap (λ b. members_of f standing p i s ++ cond (b && (standing p i == s)) (i ∷ []) []) out ∙ append-nil (members_of f standing p i s)
+-- a state that isn't left has no class
+pub members_same : (f : Family) (standing : ℕ → ℕ → ℕ) (p i s : ℕ) (xs : List ℕ) → f p i ≡ false → xs ≡ xs ++ cond (f p i && (standing p i == s)) (i ∷ []) []
+members_same f standing p i s xs out = sym (append-nil xs) ∙ ap (λ b. xs ++ cond (b && (standing p i == s)) (i ∷ []) []) (sym out)
 
-  pub members_here : (s : ℕ) → f p i ≡ true → standing p i ≡ s → members_of f standing p (i + 1) s ≡ members_of f standing p i s ++ i ∷ []
-  members_here s in_ same =
-      filter-range-more (λ k. f p k && (standing p k == s)) i ∙ (λ n. members_of f standing p i s ++ cond (in_ n && eq-eqb (standing p i) s same n) (i ∷ []) [])
+pub members_here : (f : Family) (standing : ℕ → ℕ → ℕ) (p i s : ℕ) (xs : List ℕ) → f p i ≡ true → standing p i ≡ s → xs ++ i ∷ [] ≡ xs ++ cond (f p i && (standing p i == s)) (i ∷ []) []
+members_here f standing p i s xs left_ same = λ n. xs ++ cond (sym left_ n && sym (eq-eqb (standing p i) s same) n) (i ∷ []) []
 
-  pub members_apart : (s : ℕ) → f p i ≡ true → s ≢ standing p i → members_of f standing p (i + 1) s ≡ members_of f standing p i s
-  members_apart s in_ ne =
-      filter-range-more (λ k. f p k && (standing p k == s)) i ∙ (λ n. members_of f standing p i s ++ cond (in_ n && ne_eqb (standing p i) s (λ e. ne (sym e)) n) (i ∷ []) [])
-      ∙ append-nil (members_of f standing p i s)
+pub members_apart : (f : Family) (standing : ℕ → ℕ → ℕ) (p i s : ℕ) (xs : List ℕ) → f p i ≡ true → s ≢ standing p i → xs ≡ xs ++ cond (f p i && (standing p i == s)) (i ∷ []) []
+members_apart f standing p i s xs left_ ne = sym (append-nil xs) ∙ (λ n. xs ++ cond (sym left_ n && sym (ne_eqb (standing p i) s (λ e. ne (sym e))) n) (i ∷ []) [])
+
+pub members_next : (f : Family) (standing : ℕ → ℕ → ℕ) (p i s : ℕ) → members_of f standing p (i + 1) s ≡ members_of f standing p i s ++ cond (f p i && (standing p i == s)) (i ∷ []) []
+members_next f standing p i s = filter-range-more (λ k. f p k && (standing p k == s)) i
 
 -- ---- the classes of one package
 
@@ -37,31 +35,28 @@ module _ (f : Family) (standing : ℕ → ℕ → ℕ) (p i : ℕ) where
 abbrev pub class_list : Family → (ℕ → ℕ → ℕ) → ℕ → ℕ → ℕ → List ClassSaid
 class_list f standing p n s = map (class_of f standing p n) (filter (does_stand f standing p) (range_with_len 0 s))
 
-module _ (f : Family) (standing : ℕ → ℕ → ℕ) (p n s : ℕ) where
-  step : class_list f standing p n (s + 1) ≡ class_list f standing p n s ++ map (class_of f standing p n) (cond (does_stand f standing p s) (s ∷ []) [])
-  step = ap (map (class_of f standing p n)) (filter-range-more (does_stand f standing p) s)
-      ∙ map-append (class_of f standing p n) (filter (does_stand f standing p) (range_with_len 0 s)) (cond (does_stand f standing p s) (s ∷ []) [])
+mapped_cond : {X Y : Type 0} (f : X → Y) (b : Bool) (x : X) → map f (cond b (x ∷ []) []) ≡ cond b (f x ∷ []) []
+mapped_cond f true x = refl
+mapped_cond f false x = refl
 
-  pub class_more : does_stand f standing p s ≡ true → class_list f standing p n (s + 1) ≡ class_list f standing p n s ++ class_of f standing p n s ∷ []
-  class_more stands = step ∙ ap (λ b. class_list f standing p n s ++ map (class_of f standing p n) (cond b (s ∷ []) [])) stands
-
-  pub class_same : does_stand f standing p s ≡ false → class_list f standing p n (s + 1) ≡ class_list f standing p n s
-  class_same out = step ∙ ap (λ b. class_list f standing p n s ++ map (class_of f standing p n) (cond b (s ∷ []) [])) out ∙ append-nil (class_list f standing p n s)
+pub class_next : (f : Family) (standing : ℕ → ℕ → ℕ) (p n s : ℕ) → class_list f standing p n (s + 1) ≡ class_list f standing p n s ++ cond (does_stand f standing p s) (class_of f standing p n s ∷ []) []
+class_next f standing p n s =
+    ap (map (class_of f standing p n)) (filter-range-more (does_stand f standing p) s)
+    ∙ map-append (class_of f standing p n) (filter (does_stand f standing p) (range_with_len 0 s)) (cond (does_stand f standing p s) (s ∷ []) [])
+    ∙ ap (λ r. class_list f standing p n s ++ r) (mapped_cond (class_of f standing p n) (does_stand f standing p s) s)
 
 -- ---- all packages
 
-module _ (g : Graph) (f : Family) (standing : ℕ → ℕ → ℕ) (kept : ℕ → Bool) (n : ℕ) where
-  abbrev row_of : ℕ → List ClassSaid
-  row_of p = classes_of f standing p (states g p)
+flat_cond : {X Y : Type 0} (f : X → List Y) (b : Bool) (x : X) → flat_map f (cond b (x ∷ []) []) ≡ cond b (f x) []
+flat_cond f true x = append-nil (f x)
+flat_cond f false x = refl
 
-  package_step : classes_below g f standing kept (n + 1) ≡ classes_below g f standing kept n ++ flat_map row_of (cond (kept n) (n ∷ []) [])
-  package_step = ap (flat_map row_of) (filter-range-more kept n) ∙ flat_map-append row_of (filter kept (range_with_len 0 n)) (cond (kept n) (n ∷ []) [])
-
-  pub package_more : kept n ≡ true → classes_below g f standing kept (n + 1) ≡ classes_below g f standing kept n ++ row_of n
-  package_more is = package_step ∙ ap (λ b. classes_below g f standing kept n ++ flat_map row_of (cond b (n ∷ []) [])) is ∙ ap (λ r. classes_below g f standing kept n ++ r) (append-nil (row_of n))
-
-  pub package_same : kept n ≡ false → classes_below g f standing kept (n + 1) ≡ classes_below g f standing kept n
-  package_same out = package_step ∙ ap (λ b. classes_below g f standing kept n ++ flat_map row_of (cond b (n ∷ []) [])) out ∙ append-nil (classes_below g f standing kept n)
+pub package_next : (g : Graph) (f : Family) (standing : ℕ → ℕ → ℕ) (kept : ℕ → Bool) (n : ℕ) →
+    classes_below g f standing kept (n + 1) ≡ classes_below g f standing kept n ++ cond (kept n) (classes_of f standing n (states g n)) []
+package_next g f standing kept n =
+    ap (flat_map (λ p. classes_of f standing p (states g p))) (filter-range-more kept n)
+    ∙ flat_map-append (λ p. classes_of f standing p (states g p)) (filter kept (range_with_len 0 n)) (cond (kept n) (n ∷ []) [])
+    ∙ ap (λ r. classes_below g f standing kept n ++ r) (flat_cond (λ p. classes_of f standing p (states g p)) (kept n) n)
 
 pub all_listed : (g : Graph) (f : Family) (pr : Pruning) → ((p i : ℕ) → f p i ≡ left g pr p i) → classes_below g f pr.standing pr.kept (packages g) ≡ classes_in g pr
 all_listed g f pr same = λ k. classes_below g (λ p i. same p i k) pr.standing pr.kept (packages g)

@@ -1,5 +1,5 @@
 //! The classes of states that pruning makes.
-ghost use Rattle.std.specs.Prelude.{◌≡◌, ◌≢◌, ◌<◌, ◌&&◌, ◌==◌, ◌∷◌, ◌++◌, ℕ, true, [], length, map, slice_index_or, IfOk, IfErr, OnOk};
+ghost use Rattle.std.specs.Prelude.{◌≡◌, ◌≢◌, ◌<◌, ◌&&◌, ◌==◌, ◌∷◌, ◌++◌, ℕ, true, [], length, map, slice_index_or, if◌then◌else◌, IfOk, IfErr, OnOk};
 ghost use Rattle.offer_terms.specs.Demanded.{wanted};
 ghost use Rattle.version_graph.specs.Graph.{packages, states};
 ghost use Rattle.version_graph.specs.Domain.{row, has};
@@ -64,12 +64,32 @@ fn classes_left(
 {
     let mut table = Listed::make(alloc);
     for package in 0..instance.packages() {
-        if pruned.kept.has(package) {
-            let count = instance.states(package);
-            push_classes(alloc, domains, &pruned.classes, package, count, &mut table)?;
-        }
+        push_if_kept(alloc, instance, domains, pruned, package, &mut table)?;
     }
     Ok(table)
+}
+
+/// Adds the classes of the package, if it is kept.
+fn push_if_kept(
+    alloc: Global,
+    instance: &Instance,
+    domains: &Domains,
+    pruned: &Pruned,
+    package: u32,
+    table: &mut ClassTable,
+) -> Result<(), AllocError>
+    requires known { «package» < packages instance.now }
+    requires marks { length pruned.now.kept ≡ packages instance.now }
+    requires made { spec.HasStates domains.now pruned.now.classes «package» (states instance.now «package») }
+    ensures { OnOk result (map spec.class_said table.new.items ≡ map spec.class_said table.old.items
+        ++ (if marked pruned.now.kept «package» then spec.classes_of (has domains.now) (standing_in pruned.now.classes) «package» (states instance.now «package») else [])) }
+{
+    if !pruned.kept.has(package) {
+        return Ok(());
+    }
+    let count = instance.states(package);
+    push_classes(alloc, domains, &pruned.classes, package, count, table)?;
+    Ok(())
 }
 
 /// Adds the classes of a package, which has so many states.
@@ -86,10 +106,33 @@ fn push_classes(
 {
     let members = members_of(alloc, domains, classes, package, count)?;
     for state in 0..count {
-        if does_stand(domains, classes, package, state) {
-            push_class(alloc, package, state, &members[state as usize], table)?;
-        }
+        let states = &members[state as usize];
+        push_if_standing(alloc, domains, classes, package, state, states, table)?;
     }
+    Ok(())
+}
+
+/// Adds the class of the state, with these members, if the state is left and stands for its class.
+fn push_if_standing(
+    alloc: Global,
+    domains: &Domains,
+    classes: &Classes,
+    package: u32,
+    state: u32,
+    members: &States,
+    table: &mut ClassTable,
+) -> Result<(), AllocError>
+    requires known { «package» < length domains.now }
+    requires state { state < length (row domains.now «package») }
+    requires listed { «package» < length classes.now }
+    requires long { state < length (slice_index_or classes.now «package» []) }
+    ensures { OnOk result (map spec.class_said table.new.items ≡ map spec.class_said table.old.items
+        ++ (if does_stand (has domains.now) (standing_in classes.now) «package» state then record { number = «package»; standing = state; members = members.now.items } ∷ [] else [])) }
+{
+    if !does_stand(domains, classes, package, state) {
+        return Ok(());
+    }
+    push_class(alloc, package, state, members, table)?;
     Ok(())
 }
 
@@ -136,12 +179,31 @@ fn members_of(
 {
     let mut members = empty_lists(alloc, count)?;
     for state in 0..count {
-        if domains.has(package, state) {
-            let standing = classes.standing(package, state);
-            add_member(&mut members, standing, state)?;
-        }
+        list_state(domains, classes, package, state, &mut members)?;
     }
     Ok(members)
+}
+
+/// Adds the state to the members of the state that stands for it, if it is left.
+fn list_state(
+    domains: &Domains,
+    classes: &Classes,
+    package: u32,
+    state: u32,
+    members: &mut Vec<States>,
+) -> Result<(), AllocError>
+    requires made { spec.HasStates domains.now classes.now «package» (length members.old.items) }
+    requires inside { state < length members.old.items }
+    ensures each { length members.new.items ≡ length members.old.items }
+    ensures lists { OnOk result ((s : ℕ) → s < length members.old.items → spec.items_at members.new.items s ≡ spec.items_at members.old.items s
+        ++ (if has domains.now «package» state && (standing_in classes.now «package» state == s) then state ∷ [] else [])) }
+{
+    if !domains.has(package, state) {
+        return Ok(());
+    }
+    let standing = classes.standing(package, state);
+    add_member(members, standing, state)?;
+    Ok(())
 }
 
 /// So many empty lists.
