@@ -1,4 +1,5 @@
-use Rattle.std.proofs.Common.{◌≡◌, ◌∙◌, ◌++◌, ◌∷◌, [], cond, map, List, ℕ, ap, sym, append-assoc, arith}
+use Rattle.std.proofs.Common.{◌≡◌, ◌∙◌, ◌++◌, ◌∷◌, [], cond, map, List, ℕ, ap, sym, arith}
+use Rattle.std.proofs.lemmas.List.{append_assoc}
 use Rattle.version_graph.specs.Domain.{has}
 use Rattle.graph_pruning.specs.Marked.{does_stand, standing_in}
 use Rattle.resolve_core.specs.Classed.{ClassSaid, class_said, class_of}
@@ -18,6 +19,6 @@ loop-state-preserved c =
     sym (items_of c.in_ok-members.members.items s c.index-members-state.result.now (omega (arith, c.loop-state-test.true, c.in_ok-members.ensures.each)) c.index-members-state.ensures)
     ∙ c.in_ok-members.ensures.members s (omega (arith, c.loop-state-test.true)) in
     c.in_ok-push_if_standing.ensures ∙ ap (λ xs. xs ++ cond stands (record { number = p; standing = s; members = c.index-members-state.result.now.items } ∷ []) []) c.loop-state.invariant
-    ∙ append-assoc first (class_list f standing p n s) _
-    ∙ ap (λ (xs : List ℕ). first ++ class_list f standing p n s ++ cond stands (record { number = p; standing = s; members = xs } ∷ []) []) same
+    ∙ append_assoc first (class_list f standing p n s) _
+    ∙ ap (λ (xs : List ℕ). first ++ (class_list f standing p n s ++ cond stands (record { number = p; standing = s; members = xs } ∷ []) [])) same
     ∙ ap (λ r. first ++ r) (sym (class_next f standing p n s))
