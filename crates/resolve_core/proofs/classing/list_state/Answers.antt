@@ -1,4 +1,4 @@
-use Rattle.std.proofs.Common.{◌≡◌, ◌∙◌, arith, inl, inr, ap, sym, subst}
+use Rattle.std.proofs.Common.{◌≡◌, ◌∙◌, ◌++◌, ◌∷◌, [], inl, inr, ap, sym, subst}
 use Rattle.std.proofs.lemmas.Bool.{cases_eq}
 use Rattle.version_graph.specs.Domain.{has}
 use Rattle.graph_pruning.specs.Marked.{standing_in}
@@ -19,7 +19,7 @@ returns-clause-lists c s inside =
     let old = items_at c.args.members.now.items s in
     elim (cases_eq s (standing p c.args.state)) [
       | inl same ↦
-          subst (λ t. items_at c.add_member.new.lists.items t ≡ _) (c.standing-standing.ensures ∙ sym same) c.in_ok-add_member.ensures.here
-          ∙ members_here f standing p c.args.state s _ here (sym same)
+          subst (λ t. items_at c.add_member.new.lists.items t ≡ items_at c.args.members.now.items t ++ c.args.state ∷ []) (c.standing-standing.ensures ∙ sym same) c.in_ok-add_member.ensures.here
+          ∙ members_here f standing p c.args.state s old here (sym same)
       | inr ne ↦ c.in_ok-add_member.ensures.others s (λ e. ne (e ∙ c.standing-standing.ensures)) ∙ members_apart f standing p c.args.state s old here ne
     ]

@@ -15,10 +15,10 @@ loop-state-preserved c =
     let s = c.loop-state.state in
     let first = map class_said c.args.table.now.items in
     let stands = does_stand f standing p s in
-    let same : c.index-members-state.result.now.items ≡ (class_of f standing p n s).members =
-    sym (items_of c.in_ok-members.members.items s c.index-members-state.result.now (omega (arith, c.loop-state-test.true, c.in_ok-members.ensures.each)) c.index-members-state.ensures)
+    let same : c.index-states.result.now.items ≡ (class_of f standing p n s).members =
+    sym (items_of c.in_ok-members.members.items s c.index-states.result.now (omega (arith, c.loop-state-test.true, c.in_ok-members.ensures.each)) c.index-states.ensures)
     ∙ c.in_ok-members.ensures.members s (omega (arith, c.loop-state-test.true)) in
-    c.in_ok-push_if_standing.ensures ∙ ap (λ xs. xs ++ cond stands (record { number = p; standing = s; members = c.index-members-state.result.now.items } ∷ []) []) c.loop-state.invariant
+    c.in_ok-push_if_standing.ensures ∙ ap (λ xs. xs ++ cond stands (record { number = p; standing = s; members = c.index-states.result.now.items } ∷ []) []) c.loop-state.invariant
     ∙ append_assoc first (class_list f standing p n s) _
     ∙ ap (λ (xs : List ℕ). first ++ (class_list f standing p n s ++ cond stands (record { number = p; standing = s; members = xs } ∷ []) [])) same
     ∙ ap (λ r. first ++ r) (sym (class_next f standing p n s))
