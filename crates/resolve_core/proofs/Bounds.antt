@@ -1,5 +1,5 @@
 -- The bound on nodes by the book's packages.
-use Rattle.std.proofs.Common.{◌≡◌, ℕ, zero, suc, ◌+◌, ◌*◌, ◌<◌, List, length, refl, sym, ap, ◌∙◌, arith}
+use Rattle.std.proofs.Common.{◌≡◌, ℕ, zero, suc, ◌+◌, ◌*◌, ◌<◌, List, length, refl, ap, ◌∙◌, arith}
 use Rattle.offer_terms.specs.Booked.{Packed, package_at}
 use Rattle.offer_terms.specs.Demanded.{Wanted}
 use Rattle.version_graph.specs.Graph.{Graph, states}

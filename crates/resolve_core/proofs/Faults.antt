@@ -1,5 +1,5 @@
 -- Refusals of an instance as those of resolving.
-use Rattle.std.proofs.Common.{◌≡◌, ℕ, List, sym, subst}
+use Rattle.std.proofs.Common.{ℕ, List, sym, subst}
 use Rattle.offer_terms.specs.Booked.{Packed}
 use Rattle.offer_terms.specs.Demanded.{Wanted}
 use Rattle.version_graph.specs.declared.fault.GraphFault.{GraphFault}

@@ -1,7 +1,7 @@
 -- The classes of states that pruning makes: of each kept package, in the order of their numbers, the states that stand for
 -- others, rising, each with all states for which it stands. (own rule: states that allow the same states of every other
 -- package make no difference, and the greatest stands for them)
-use Rattle.std.specs.Prelude.{◌≡◌, ◌&&◌, ◌==◌, ℕ, ◌<◌, Bool, List, [], ◌∷◌, map, length, slice_index_or, true}
+use Rattle.std.specs.Prelude.{◌≡◌, ◌&&◌, ◌==◌, ℕ, ◌<◌, Bool, List, [], map, length, slice_index_or, true}
 use Rattle.std.specs.List.{filter, flat_map, range_with_len}
 use Rattle.pkg_world.specs.Listing.{Listing}
 use Rattle.offer_terms.specs.Booked.{Packed}

@@ -1,5 +1,4 @@
-use Rattle.std.proofs.Common.{◌≡◌, ◌∷◌, ◌++◌, [], ap, sym, ◌∙◌, arith}
-use Rattle.resolve_core.specs.Classed.{items_at}
+use Rattle.std.proofs.Common.{◌∷◌, ◌++◌, [], ap, sym, ◌∙◌}
 use Rattle.resolve_core.proofs.Classes.{items_set_here, items_set_other, items_of}
 use Rattle.resolve_core.proofs.classing.add_member.Goals as goal
 

@@ -1,4 +1,4 @@
-use Rattle.std.proofs.Common.{◌≡◌, arith, sym, ap, ◌∙◌}
+use Rattle.std.proofs.Common.{◌∙◌}
 use Rattle.version_graph.specs.Domain.{has}
 use Rattle.graph_pruning.specs.Marked.{pruning_of}
 use Rattle.resolve_core.proofs.Classes.{has_states, all_listed, if_listed}

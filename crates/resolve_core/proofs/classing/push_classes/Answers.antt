@@ -2,7 +2,7 @@ use Rattle.std.proofs.Common.{◌≡◌, ◌∙◌, ◌++◌, ◌∷◌, [], con
 use Rattle.std.proofs.lemmas.List.{append_assoc}
 use Rattle.version_graph.specs.Domain.{has}
 use Rattle.graph_pruning.specs.Marked.{does_stand, standing_in}
-use Rattle.resolve_core.specs.Classed.{ClassSaid, class_said, class_of}
+use Rattle.resolve_core.specs.Classed.{class_said, class_of}
 use Rattle.resolve_core.proofs.Classes.{class_list, class_next, items_of}
 use Rattle.resolve_core.proofs.classing.push_classes.Goals as goal
 

@@ -1,4 +1,4 @@
-use Rattle.std.proofs.Common.{◌≡◌, ◌∙◌, ◌++◌, [], cond, map, append-nil, ap, sym}
+use Rattle.std.proofs.Common.{◌∙◌, ◌++◌, [], cond, map, append-nil, ap, sym}
 use Rattle.version_graph.specs.Graph.{states}
 use Rattle.version_graph.specs.Domain.{has}
 use Rattle.graph_pruning.specs.Marked.{standing_in}

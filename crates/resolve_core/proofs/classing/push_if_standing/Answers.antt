@@ -1,4 +1,4 @@
-use Rattle.std.proofs.Common.{◌≡◌, ◌∙◌, ◌++◌, ◌∷◌, [], cond, map, append-nil, ap, sym}
+use Rattle.std.proofs.Common.{◌∙◌, ◌++◌, ◌∷◌, [], cond, map, append-nil, ap, sym}
 use Rattle.resolve_core.specs.Classed.{ClassSaid, class_said}
 use Rattle.resolve_core.proofs.classing.push_if_standing.Goals as goal
 
