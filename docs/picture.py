@@ -15,7 +15,7 @@ LAYERS = {
     "Files": "project_file manifest_file registry_tables registered_offers",
     "Environments": "project_places env_maps import_lookup",
     "What is chosen among": "standard_libraries fixed_packages offer_terms package_offers offer_catalog offer_book selection_check",
-    "The resolver's core": "bit_rows lex_weights version_graph graph_pruning refutation_log maxsum_messages decimation_repair raise_pass",
+    "The resolver's core": "bit_rows lex_weights version_graph graph_pruning refutation_log maxsum_messages decimation_repair raise_pass instance_search",
     "The command": "command_answers command_words offers_command home_commands pkg_top",
     "The edge": "read_once jlpkg",
     "Cases and tests": "worked_cases text_tests file_tests store_tests depot_tests graph_tests offer_tests selection_tests",

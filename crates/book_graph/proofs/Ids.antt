@@ -1,17 +1,17 @@
 -- Packages of a book by their numbers and by their identifiers.
-use Rattle.std.proofs.Common.{◌≡◌, ℕ, ◌<◌, ◌≤◌, ◌+◌, Bool, true, false, cond, ltb, true≢false, ◌⊎◌, List, [], ◌∷◌, length, map, get_or, slice_get, Option, Some, None, is_some, bytes_eq, lt-ltb, refl, sym, ap, ◌∙◌, subst, inl, inr, arith}
-use Rattle.std.specs.Prelude.{find, position}
+use Rattle.std.proofs.Common.{◌≡◌, ℕ, ◌<◌, Bool, true, false, cond, ltb, true≢false, ◌⊎◌, List, [], ◌∷◌, length, get_or, Some, None, bytes_eq, lt-ltb, refl, sym, ap, ◌∙◌, inl, inr, arith}
+use Rattle.std.specs.Prelude.{find}
 use Rattle.std.specs.List.{IsDistinct, position_or_len}
 use Rattle.std.proofs.lemmas.List.{get_or-map, length-map}
 use Rattle.std.proofs.lemmas.List.Sums.{position_or_len_is}
 use Rattle.std.proofs.lemmas.Map.Keys.{apart_from_distinct}
 use Rattle.std.proofs.lemmas.Option.{none-some, same_Some, slice_get-get_or}
 use Rattle.std.proofs.lemmas.Slice.Eq.{bytes_eq-Decides}
-use Rattle.offer_terms.specs.Offered.{Id, Offering}
+use Rattle.offer_terms.specs.Offered.{Id}
 use Rattle.offer_terms.specs.Booked.{Packed, unread, package_at, ids_of, is_for, number_of, book_offers}
 use Rattle.offer_terms.proofs.Finds.{position_within, find_there}
 use Rattle.offer_terms.proofs.Books.{offers_at_number}
-use Rattle.book_graph.specs.StandsFor.{id_of, IsBook}
+use Rattle.book_graph.specs.StandsFor.{id_of}
 use Rattle.book_graph.specs.Building.{IsNumberOf, IsNowhere}
 
 -- ---- identifiers

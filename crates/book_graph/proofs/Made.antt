@@ -1,10 +1,10 @@
 -- The instance in which all this is forbidden stands for the book and the demand.
-use Rattle.std.proofs.Common.{◌≡◌, ℕ, ◌+◌, ◌<◌, ◌≤◌, ◌^◌, true, true≢false, ◌⊎◌, ◌↔◌, List, length, map, get_or, sum, Result, Ok, Err, IfOk, IfErr, OnOk, refl, sym, ap, ◌∙◌, subst, inl, inr, arith}
+use Rattle.std.proofs.Common.{◌≡◌, ℕ, ◌<◌, ◌≤◌, true, true≢false, ◌⊎◌, ◌↔◌, List, length, get_or, sum, Result, Ok, Err, IfOk, IfErr, OnOk, refl, sym, ap, ◌∙◌, inl, inr}
 use Rattle.std.proofs.lemmas.List.{length-map}
 use Rattle.pkg_world.specs.declared.cause.LimitKind.TheVariants.{Packages, States, Bits, Cells, TreeDepth, TreeFiles}
 use Rattle.offer_terms.specs.Booked.{Packed, package_at}
 use Rattle.offer_terms.specs.Demanded.{Wanted}
-use Rattle.version_graph.specs.Graph.{Graph, packages, states, is_barred, is_forbidden, IsOpen, SameGraph}
+use Rattle.version_graph.specs.Graph.{Graph, is_barred, is_forbidden, IsOpen, SameGraph}
 use Rattle.version_graph.specs.Answers.{SumsPass}
 use Rattle.version_graph.specs.declared.fault.GraphFault.{GraphFault}
 use Rattle.version_graph.specs.declared.fault.GraphFault.TheVariants.{Limit, Memory}

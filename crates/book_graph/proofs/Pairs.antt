@@ -1,18 +1,18 @@
 -- Which pairs of states are forbidden, after each step.
-use Rattle.std.proofs.Common.{◌≡◌, ◌≢◌, ℕ, ◌+◌, ◌<◌, ◌≤◌, Bool, true, false, not, ◌&&◌, ◌||◌, ◌==◌, true≢false, ◌⊎◌, List, length, map, slice_get, Option, Some, None, Contains, refl, sym, ap, ◌∙◌, subst, inl, inr, arith}
+use Rattle.std.proofs.Common.{◌≡◌, ◌≢◌, ℕ, ◌<◌, ◌≤◌, Bool, true, false, not, ◌&&◌, ◌||◌, ◌==◌, true≢false, ◌⊎◌, List, length, slice_get, Option, Some, None, Contains, refl, sym, ap, ◌∙◌, subst, inl, inr, arith}
 use Rattle.std.proofs.lemmas.Bool.{and_parts, and_from, or_cases, or_left, or_right, eqb-true, eq-eqb}
-use Rattle.std.proofs.lemmas.Option.{none-some, same_Some, slice_get_within}
+use Rattle.std.proofs.lemmas.Option.{same_Some, slice_get_within}
 use Rattle.jl_versions.specs.Triple.{triple_of}
 use Rattle.compat_spec.specs.declared.allowed.Allowed.{Allowed}
 use Rattle.compat_spec.specs.declared.allowed.Allowed.TheVariants as kinds
 use Rattle.compat_spec.specs.Admitted.{allowed_holds}
-use Rattle.offer_terms.specs.Offered.{Text, Id, Allows, allows, allows_holds, Offering}
+use Rattle.offer_terms.specs.Offered.{Text, Id, Allows, allows, Offering}
 use Rattle.offer_terms.specs.Booked.{Packed, package_at}
-use Rattle.version_graph.specs.Graph.{Graph, packages, states, is_barred, is_forbidden, is_pair}
-use Rattle.book_graph.specs.StandsFor.{id_of, offer_in, state_count, Excludes, Depends, IsOutside}
+use Rattle.version_graph.specs.Graph.{Graph, is_barred, is_forbidden, is_pair}
+use Rattle.book_graph.specs.StandsFor.{id_of, offer_in, Excludes, Depends, IsOutside}
 use Rattle.book_graph.specs.Building.{State, Pair, Forbids, EitherWay, UpTo, OfOne, AreThese, IsWith, IsFrom, IsAmong, IsAmongAt, IsOffered, IsAbsent, IsExcludedBy, AreExcludedOf, AreExcluded, IsNumberOf, IsNowhereElse, is_refused}
 use Rattle.book_graph.proofs.Steps.{forbids_none, forbids_on, forbids_like}
-use Rattle.book_graph.proofs.States.{not_true, among_all, all_among, offered_to, among_of, absent_to, absent_of, last_from, none_last}
+use Rattle.book_graph.proofs.States.{not_true, all_among, offered_to, among_of, absent_to, absent_of, last_from, none_last}
 
 -- ---- one pair
 

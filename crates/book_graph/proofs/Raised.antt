@@ -1,5 +1,5 @@
 -- Raising a package alone, in a solution and in its selection; and what a finished solution selects.
-use Rattle.std.proofs.Common.{◌≡◌, ◌≢◌, ℕ, ◌+◌, ◌-◌, ◌<◌, ◌≤◌, Bool, true, false, cond, true≢false, ◌⊎◌, ◌↔◌, List, length, map, get_or, set, slice_get, find, Option, Some, None, is_some, IsSome, option_map, Contains, ◌++◌, bytes_eq, Less, Equal, Greater, length-set, refl, sym, ap, ◌∙◌, subst, inl, inr, arith}
+use Rattle.std.proofs.Common.{◌≡◌, ◌≢◌, ℕ, ◌<◌, Bool, true, false, cond, true≢false, List, length, get_or, set, find, Option, Some, None, is_some, option_map, Contains, ◌++◌, bytes_eq, Less, Equal, Greater, length-set, refl, sym, ap, ◌∙◌, subst, inl, inr, arith}
 use Rattle.std.specs.List.{position_or_len}
 use Rattle.std.specs.Map.{keys_of}
 use Rattle.std.specs.Cmp.{tied_itself}
@@ -10,19 +10,19 @@ use Rattle.std.proofs.lemmas.Bool.{cases_lt, cases_eq}
 use Rattle.std.proofs.lemmas.List.{get_or-set_same, get_or-set_other}
 use Rattle.std.proofs.lemmas.List.Folds.{find_at}
 use Rattle.std.proofs.lemmas.Map.{keys-set_value, lookup-set_value}
-use Rattle.std.proofs.lemmas.Option.{none-some, same_Some, slice_get_within, slice_get-get_or}
+use Rattle.std.proofs.lemmas.Option.{same_Some, slice_get_within, slice_get-get_or}
 use Rattle.jl_versions.specs.Order.{version_cmp}
 use Rattle.jl_versions.specs.OrderLaws.{version_total}
 use Rattle.jl_versions.specs.declared.version.Version.{Version}
 use Rattle.offer_terms.specs.ById.{AreRising}
 use Rattle.offer_terms.specs.Offered.{Id, Offering, Selected, version_in, is_of, offer_at, with_version}
-use Rattle.offer_terms.specs.Booked.{Packed, unread, package_at, number_of, book_offers}
+use Rattle.offer_terms.specs.Booked.{Packed, package_at, number_of, book_offers}
 use Rattle.offer_terms.specs.Demanded.{Wanted}
-use Rattle.offer_terms.specs.Feasible.{IsFeasible, IsNeeded, IsValid, CanRaise}
-use Rattle.version_graph.specs.Graph.{Graph, packages, states, last, is_forbidden, is_offered, IsSolution}
+use Rattle.offer_terms.specs.Feasible.{IsNeeded, CanRaise}
+use Rattle.version_graph.specs.Graph.{Graph, packages, last, is_forbidden, is_offered, IsSolution}
 use Rattle.raise_pass.specs.Finishing.{IsFinished}
 use Rattle.raise_pass.specs.Finishing as finishing
-use Rattle.book_graph.specs.StandsFor.{id_of, offer_in, state_count, ShutsOffer, at_pin, Shuts, Excludes, StandsFor, IsBook, Covers}
+use Rattle.book_graph.specs.StandsFor.{id_of, offer_in, state_count, at_pin, Shuts, StandsFor, IsBook, Covers}
 use Rattle.book_graph.specs.Chosen.{version_of, IsSelectionOf, state_of, states_of}
 use Rattle.book_graph.specs.Laws.{RaisesTo, RaiseIsRaise, FinishedIsBest}
 use Rattle.book_graph.proofs.Ids.{id_case, id_itself, same_id, number_is, number_at, one_number, offers_of_number}

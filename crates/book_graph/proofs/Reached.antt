@@ -1,12 +1,11 @@
 -- What a solution's states need is what its selection needs.
-use Rattle.std.proofs.Common.{◌≡◌, ◌≢◌, ℕ, ◌+◌, ◌-◌, ◌<◌, ◌≤◌, Bool, true, false, not, ◌&&◌, ◌==◌, true≢false, ◌⊎◌, ◌↔◌, List, length, get_or, ltb, lt-ltb, ltb-true, Option, Some, None, Contains, refl, sym, ap, ◌∙◌, subst, inl, inr, arith}
+use Rattle.std.proofs.Common.{◌≡◌, ◌≢◌, ℕ, ◌<◌, Bool, true, not, ◌&&◌, ◌==◌, true≢false, List, length, get_or, ltb, lt-ltb, ltb-true, Option, Some, None, Contains, refl, sym, ap, ◌∙◌, subst, inl, inr, arith}
 use Rattle.std.proofs.lemmas.Bool.{and_parts, and_from, ne_eqb, eq-eqb}
-use Rattle.std.proofs.lemmas.Option.{none-some, same_Some}
-use Rattle.offer_terms.specs.Offered.{Text, Id, Offering, Selected, taken}
+use Rattle.offer_terms.specs.Offered.{Text, Id, Offering, Selected}
 use Rattle.offer_terms.specs.Booked.{Packed, package_at, number_of, book_offers}
 use Rattle.offer_terms.specs.Demanded.{Wanted}
 use Rattle.offer_terms.specs.Feasible.{Spreads, IsNeeded}
-use Rattle.version_graph.specs.Graph.{Graph, packages, states, last, is_barred, is_forbidden, is_root, does_need, IsSolution}
+use Rattle.version_graph.specs.Graph.{Graph, packages, last, is_barred, is_forbidden, is_root, does_need, IsSolution}
 use Rattle.raise_pass.specs.Finishing.{IsReached}
 use Rattle.raise_pass.specs.Finishing as finishing
 use Rattle.book_graph.specs.StandsFor.{id_of, offer_in, state_count, IsRoot, Shuts, Depends, Excludes, StandsFor, IsBook}

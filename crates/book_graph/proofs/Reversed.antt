@@ -1,28 +1,25 @@
 -- A feasible selection over the book's offers is that of one solution.
-use Rattle.std.proofs.Common.{◌≡◌, ◌≢◌, ℕ, ◌+◌, ◌<◌, ◌≤◌, Bool, true, false, true≢false, ◌⊎◌, List, [], length, map, get_or, slice_get, find, Option, Some, None, is_some, IsSome, option_map, Contains, refl, sym, ap, ◌∙◌, subst, inl, inr, arith}
+use Rattle.std.proofs.Common.{◌≡◌, ◌≢◌, ℕ, ◌<◌, Bool, true, false, true≢false, List, [], length, get_or, slice_get, find, Option, Some, None, is_some, IsSome, option_map, refl, sym, ap, ◌∙◌, subst, inl, inr, arith}
 use Rattle.std.specs.List.{position_or_len}
 use Rattle.std.specs.Option.{option_and_then}
 use Rattle.std.proofs.lemmas.List.{get_or-map, length-map}
 use Rattle.std.proofs.lemmas.List.Folds.{find_at}
 use Rattle.std.proofs.lemmas.Grind.{same_number_lists}
-use Rattle.std.proofs.lemmas.Option.{none-some, same_Some, slice_get_within}
-use Rattle.jl_versions.specs.Triple.{triple_of}
+use Rattle.std.proofs.lemmas.Option.{none-some, slice_get_within}
 use Rattle.jl_versions.specs.declared.version.Version.{Version}
-use Rattle.compat_spec.specs.declared.part.Part.{Part}
-use Rattle.compat_spec.specs.Meaning.{specifier_holds}
 use Rattle.package_tables.specs.Row.{julia_id}
-use Rattle.offer_terms.specs.Offered.{Text, Id, Allows, allows_holds, Offering, Selected, version_in, is_of, offer_at, taken}
+use Rattle.offer_terms.specs.Offered.{Id, Offering, Selected, version_in, is_of, offer_at, taken}
 use Rattle.offer_terms.specs.Booked.{Packed, unread, package_at, number_of, book_offers}
 use Rattle.offer_terms.specs.Demanded.{Wanted}
 use Rattle.offer_terms.specs.Feasible.{IsFeasible}
 use Rattle.offer_terms.proofs.Books.{offers_nowhere}
-use Rattle.version_graph.specs.Graph.{Graph, packages, states, is_forbidden, IsSolution}
-use Rattle.book_graph.specs.StandsFor.{id_of, offer_in, state_count, IsRoot, ShutsOffer, at_julia, at_project, at_pin, Shuts, Depends, IsOutside, Excludes, StandsFor, IsBook}
-use Rattle.book_graph.specs.Chosen.{version_of, chosen_version, IsSelectionOf, state_of, states_of}
+use Rattle.version_graph.specs.Graph.{Graph, is_forbidden, IsSolution}
+use Rattle.book_graph.specs.StandsFor.{id_of, offer_in, state_count, ShutsOffer, at_julia, at_project, at_pin, Shuts, Excludes, StandsFor, IsBook}
+use Rattle.book_graph.specs.Chosen.{version_of, IsSelectionOf, state_of, states_of}
 use Rattle.book_graph.specs.Laws.{FeasibleIsSolution, OneSolution, NoneIsFeasible}
-use Rattle.book_graph.proofs.Ids.{number_is, number_at, one_number, offers_of_number}
+use Rattle.book_graph.proofs.Ids.{number_is, one_number, offers_of_number}
 use Rattle.book_graph.proofs.States.{last_from, none_last}
-use Rattle.book_graph.proofs.Solved.{offer_of, found_is_of, place_of_version, some_value, is_some_of, selected_at, offered_state, state_offered, state_width, graph_known, book_known}
+use Rattle.book_graph.proofs.Solved.{offer_of, found_is_of, place_of_version, some_value, selected_at, offered_state, state_offered, graph_known, book_known}
 
 pub state_is : (book : List Packed) (s : Selected) (p : ℕ) → p < length book → get_or (states_of book s) p 0 ≡ state_of (package_at book p).offers (version_in s (id_of book p))
 state_is book s p inside = get_or-map (λ (it : Packed). state_of it.offers (version_in s it.uuid)) book p (unread [] []) 0 inside

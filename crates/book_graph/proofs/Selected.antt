@@ -1,5 +1,5 @@
 -- The versions that states choose, package by package.
-use Rattle.std.proofs.Common.{◌≡◌, ℕ, ◌+◌, ◌<◌, true, false, cond, ltb, true≢false, ◌⊎◌, List, [], length, Option, Some, None, bytes_eq, lt-ltb, le-ltb, refl, sym, ap, ◌∙◌, subst, inl, inr, arith}
+use Rattle.std.proofs.Common.{◌≡◌, ℕ, ◌+◌, ◌<◌, true, false, cond, ltb, List, length, Option, Some, None, bytes_eq, lt-ltb, le-ltb, refl, sym, ap, ◌∙◌, inl, inr, arith}
 use Rattle.std.specs.List.{IsDistinct}
 use Rattle.std.specs.Map.{lookup}
 use Rattle.std.specs.BTreeMap.{is_at}
@@ -14,7 +14,7 @@ use Rattle.offer_terms.specs.Offered.{Id, Selected, version_in}
 use Rattle.offer_terms.specs.Booked.{Packed, ids_of, number_of}
 use Rattle.book_graph.specs.StandsFor.{id_of}
 use Rattle.book_graph.specs.Chosen.{version_of, chosen_version, or_else, Puts}
-use Rattle.book_graph.proofs.Ids.{id_case, id_itself, number_is, number_at, number_named}
+use Rattle.book_graph.proofs.Ids.{id_case, id_itself, number_is, number_at}
 
 -- an identifier is found by its bytes in either way
 pub by_bytes : {X : Type 0} (u : Id) (es : List (Id × X)) → lookup (is_at (slice_cmp nat_cmp u)) es ≡ lookup (bytes_eq u) es

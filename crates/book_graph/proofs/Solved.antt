@@ -1,32 +1,30 @@
 -- Solutions of the instance are the feasible selections over the book's offers.
-use Rattle.std.proofs.Common.{◌≡◌, ◌≢◌, ℕ, zero, suc, ◌+◌, ◌-◌, ◌<◌, ◌≤◌, Bool, true, false, not, ◌&&◌, true≢false, ◌⊎◌, List, [], ◌∷◌, ◌++◌, length, map, get_or, slice_get, find, Option, Some, None, is_some, IsSome, option_map, Contains, Ordering, Less, Equal, Greater, is_eq, ltb, lt-ltb, ltb-true, refl, sym, ap, ◌∙◌, subst, inl, inr, arith}
+use Rattle.std.proofs.Common.{◌≡◌, ◌≢◌, ℕ, ◌<◌, Bool, true, false, not, ◌&&◌, true≢false, List, ◌++◌, length, map, get_or, slice_get, find, Option, Some, None, is_some, IsSome, option_map, Contains, Ordering, Less, Equal, Greater, is_eq, ltb, lt-ltb, ltb-true, refl, sym, ap, ◌∙◌, subst, inl, arith}
 use Rattle.std.specs.List.{position_or_len}
 use Rattle.std.specs.List.Sorted.{IsStrictlySortedBy}
 use Rattle.std.specs.Option.{option_and_then}
 use Rattle.std.specs.Ordering.{ordering_reverse, eq_by_cmp}
-use Rattle.std.proofs.lemmas.Bool.{cases_lt, cases_eq, and_from, and_parts}
+use Rattle.std.proofs.lemmas.Bool.{and_from, and_parts}
 use Rattle.std.proofs.lemmas.List.{get_or-map, length-map}
 use Rattle.std.proofs.lemmas.List.Folds.{find_at}
 use Rattle.std.proofs.lemmas.List.Sums.{position_or_len_is}
 use Rattle.std.proofs.lemmas.Map.Keys.{Less-from_sorted}
-use Rattle.std.proofs.lemmas.Option.{none-some, same_Some, slice_get_within, slice_get_past, slice_get-get_or, get_or_from_slice_get}
+use Rattle.std.proofs.lemmas.Option.{none-some, same_Some, slice_get_within, slice_get-get_or, get_or_from_slice_get}
 use Rattle.jl_versions.specs.Order.{version_cmp}
 use Rattle.jl_versions.specs.OrderLaws.{version_total, equal_is_same, eq_is_same}
 use Rattle.jl_versions.specs.Triple.{triple_of}
 use Rattle.jl_versions.specs.declared.version.Version.{Version}
 use Rattle.compat_spec.specs.declared.part.Part.{Part}
 use Rattle.compat_spec.specs.Meaning.{specifier_holds}
-use Rattle.package_tables.specs.Row.{julia_id}
 use Rattle.offer_terms.specs.Offered.{Text, Id, Allows, allows_holds, Offering, Selected, version_in, is_of, offer_at, taken}
-use Rattle.offer_terms.specs.Booked.{Packed, unread, package_at, number_of, book_offers}
+use Rattle.offer_terms.specs.Booked.{Packed, package_at, number_of, book_offers}
 use Rattle.offer_terms.specs.Demanded.{Wanted}
 use Rattle.offer_terms.specs.Feasible.{IsFeasible}
-use Rattle.offer_terms.proofs.Books.{offers_at_number, offers_nowhere}
-use Rattle.version_graph.specs.Graph.{Graph, packages, states, is_barred, is_forbidden, is_offered, IsSolution}
-use Rattle.book_graph.specs.StandsFor.{id_of, offer_in, state_count, IsRoot, ShutsOffer, at_julia, at_project, at_pin, Shuts, Depends, IsOutside, Excludes, StandsFor, IsBook, is_held, Covers}
-use Rattle.book_graph.specs.Chosen.{version_of, chosen_version, IsSelectionOf, state_of, states_of}
-use Rattle.book_graph.proofs.Ids.{found_passes, number_is, number_at, number_named, one_number, offers_of_number}
-use Rattle.book_graph.proofs.States.{not_true, last_from, none_last}
+use Rattle.version_graph.specs.Graph.{Graph, packages, states, is_barred, is_offered, IsSolution}
+use Rattle.book_graph.specs.StandsFor.{id_of, offer_in, state_count, ShutsOffer, at_julia, at_project, at_pin, Shuts, Excludes, StandsFor, IsBook, is_held, Covers}
+use Rattle.book_graph.specs.Chosen.{version_of, IsSelectionOf}
+use Rattle.book_graph.proofs.Ids.{found_passes, number_is, number_at, offers_of_number}
+use Rattle.book_graph.proofs.States.{not_true}
 
 holds : (b : Bool) → (b ≡ false → ⊥) → b ≡ true
 holds true never = refl

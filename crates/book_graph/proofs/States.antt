@@ -1,6 +1,5 @@
 -- Which states are forbidden alone, after each step.
-use Rattle.std.proofs.Common.{◌≡◌, ◌≢◌, ℕ, zero, suc, ◌+◌, ◌<◌, ◌≤◌, Bool, true, false, not, ◌&&◌, ◌||◌, ◌==◌, true≢false, ◌⊎◌, List, [], ◌∷◌, ◌++◌, length, map, slice_get, Option, Some, None, Contains, refl, sym, ap, ◌∙◌, subst, inl, inr, arith}
-use Rattle.std.specs.List.{list_any}
+use Rattle.std.proofs.Common.{◌≡◌, ◌≢◌, ℕ, zero, suc, ◌+◌, ◌<◌, ◌≤◌, Bool, true, false, not, ◌||◌, ◌==◌, true≢false, ◌⊎◌, List, [], ◌∷◌, ◌++◌, length, slice_get, Option, Some, None, Contains, refl, sym, ap, ◌∙◌, subst, inl, inr, arith}
 use Rattle.std.specs.Ordering.{eq_by_cmp}
 use Rattle.std.specs.Str.{bytes_eq}
 use Rattle.std.proofs.lemmas.Bool.{and_parts, and_from, or_cases, or_left, or_right, eqb-true, eq-eqb, cases_lt}
@@ -9,16 +8,15 @@ use Rattle.std.proofs.lemmas.List.Folds.{Any-from_list_any, list_any-from_Any}
 use Rattle.std.proofs.lemmas.Option.{none-some, same_Some, slice_get_within, slice_get_past}
 use Rattle.jl_versions.specs.Order.{version_cmp}
 use Rattle.jl_versions.specs.OrderLaws.{eq_is_same}
-use Rattle.jl_versions.specs.Triple.{triple_of}
 use Rattle.jl_versions.specs.declared.version.Version.{Version}
 use Rattle.compat_spec.specs.declared.part.Part.{Part}
 use Rattle.package_tables.specs.Row.{julia_id}
 use Rattle.offer_terms.specs.Offered.{Text, Id, Allows, allows_holds, Offering}
 use Rattle.offer_terms.specs.Booked.{Packed, package_at}
 use Rattle.offer_terms.specs.Demanded.{Wanted}
-use Rattle.version_graph.specs.Graph.{Graph, packages, states, is_barred, is_forbidden, is_state}
+use Rattle.version_graph.specs.Graph.{Graph, is_barred, is_forbidden, is_state}
 use Rattle.book_graph.specs.StandsFor.{id_of, offer_in, state_count, IsRoot, ShutsOffer, at_julia, at_project, at_pin, Shuts}
-use Rattle.book_graph.specs.Building.{State, Adds, barred_at, Bars, UpTo, OfOne, IsThis, IsAmong, IsAmongAt, IsOffered, IsAbsent, IsAnywhere, IsShut, IsNumberOf, IsNowhere, is_outside, is_other, refuses_entry, refuses_julia}
+use Rattle.book_graph.specs.Building.{State, Bars, UpTo, OfOne, IsThis, IsAmong, IsAmongAt, IsOffered, IsAbsent, IsAnywhere, IsShut, IsNumberOf, IsNowhere, is_outside, is_other, refuses_entry, refuses_julia}
 use Rattle.book_graph.proofs.Ids.{same_id, id_itself}
 use Rattle.book_graph.proofs.Steps.{bars_none, bars_on, bars_like}
 

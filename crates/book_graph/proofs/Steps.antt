@@ -1,8 +1,8 @@
 -- What one step after another adds.
-use Rattle.std.proofs.Common.{◌≡◌, ℕ, ◌+◌, ◌<◌, ◌≤◌, Bool, true, ◌⊎◌, List, length, map, option_map, Some, Contains, slice_get, get_or, refl, sym, ap, ◌∙◌, subst, inl, inr, arith}
-use Rattle.std.proofs.lemmas.Bool.{cases_eq, cases_lt}
+use Rattle.std.proofs.Common.{◌≡◌, ℕ, ◌+◌, ◌<◌, ◌≤◌, Bool, ◌⊎◌, List, length, map, option_map, Some, slice_get, get_or, refl, sym, ap, ◌∙◌, subst, inl, inr, arith}
+use Rattle.std.proofs.lemmas.Bool.{cases_eq}
 use Rattle.std.proofs.lemmas.Option.{same_Some, slice_get_within, slice_get-get_or, get_or_from_slice_get, slice_get-map, slice_get_read}
-use Rattle.version_graph.specs.Graph.{Graph, is_barred, is_forbidden}
+use Rattle.version_graph.specs.Graph.{Graph}
 use Rattle.book_graph.specs.Building.{State, Pair, Adds, barred_at, forbidden_at, Bars, Forbids, EitherWay, UpTo, OfOne, OfPlace}
 
 pub adds_none : {X : Type 0} (f : X → Bool) (T : X → Type 0) → ((x : X) → T x → ⊥) → Adds f f T

@@ -1,5 +1,5 @@
 -- How the instance of a book is made: which states and which pairs of states one step after another forbids.
-use Rattle.std.specs.Prelude.{◌≡◌, ◌≢◌, ◌⊎◌, ℕ, ◌+◌, ◌<◌, ◌≤◌, Bool, true, not, ◌&&◌, List, length, map, Option, Some, Contains, slice_get}
+use Rattle.std.specs.Prelude.{◌≡◌, ◌≢◌, ◌⊎◌, ℕ, ◌+◌, ◌<◌, Bool, true, not, ◌&&◌, List, length, Option, Some, Contains, slice_get}
 use Rattle.std.specs.List.{list_any}
 use Rattle.std.specs.Ordering.{eq_by_cmp}
 use Rattle.std.specs.Str.{bytes_eq}
@@ -9,7 +9,7 @@ use Rattle.jl_versions.specs.declared.version.Version.{Version}
 use Rattle.compat_spec.specs.declared.part.Part.{Part}
 use Rattle.compat_spec.specs.Meaning.{specifier_holds}
 use Rattle.package_tables.specs.Row.{julia_id}
-use Rattle.offer_terms.specs.Offered.{Text, Id, Allows, allows_holds, Offering}
+use Rattle.offer_terms.specs.Offered.{Id, Allows, allows_holds, Offering}
 use Rattle.offer_terms.specs.Booked.{Packed, package_at}
 use Rattle.offer_terms.specs.Demanded.{Wanted}
 use Rattle.version_graph.specs.Graph.{Graph, packages, states, is_barred, is_forbidden}

@@ -1,5 +1,5 @@
 -- What the instance of a book and a demand says of selections.
-use Rattle.std.specs.Prelude.{◌≡◌, ◌↔◌, ◌≢◌, ℕ, ◌<◌, true, List, length, slice_index}
+use Rattle.std.specs.Prelude.{◌≡◌, ◌↔◌, ◌≢◌, ℕ, ◌<◌, true, List, length}
 use Rattle.jl_versions.specs.declared.version.Version.{Version}
 use Rattle.offer_terms.specs.Offered.{Id, Offering, Selected}
 use Rattle.offer_terms.specs.Booked.{Packed, book_offers}

@@ -1,5 +1,5 @@
 -- When there is no instance for a book and a demand, and which count is told. (own rule)
-use Rattle.std.specs.Prelude.{◌≡◌, ℕ, ◌-◌, ◌<◌, ◌≤◌, ◌^◌, List, length, sum, min}
+use Rattle.std.specs.Prelude.{◌≡◌, ◌-◌, ◌<◌, ◌≤◌, ◌^◌, List, length, sum, min}
 use Rattle.pkg_world.specs.declared.cause.LimitKind.TheVariants.{Packages, States, Bits, Cells, TreeDepth, TreeFiles}
 use Rattle.offer_terms.specs.Booked.{Packed}
 use Rattle.offer_terms.specs.Demanded.{Wanted}

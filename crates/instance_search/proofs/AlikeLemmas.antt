@@ -3,10 +3,10 @@ use Rattle.std.proofs.Common.{◌≡◌, ℕ, zero, suc, ◌<◌, not, ◌&&◌,
 use Rattle.std.specs.List.{list_any, range_with_len}
 use Rattle.std.specs.declared.cmp.Ordering.{Ordering}
 use Rattle.version_graph.specs.Graph.{Graph, packages, is_offered, is_forbidden, are_neighbours, IsListOf}
-use Rattle.version_graph.specs.Family.{Family, IsStable, Meets, InClosure, IsClosureOf, HasEmpty, agrees, under}
+use Rattle.version_graph.specs.Family.{Family, IsStable, InClosure, IsClosureOf, HasEmpty, agrees, under}
 use Rattle.maxsum_messages.specs.Post.{Post, senders_of, IsPostFor}
 use Rattle.maxsum_messages.specs.Greatest.{IsGreatest}
-use Rattle.maxsum_messages.specs.Round.{IsMessage, IsRound, AreRounds}
+use Rattle.maxsum_messages.specs.Round.{IsMessage, AreRounds}
 use Rattle.maxsum_messages.specs.Belief.{belief}
 use Rattle.maxsum_messages.specs.Choice.{IsChosen}
 use Rattle.refutation_log.specs.Refutes.{Prefix}

@@ -20,7 +20,7 @@ use Rattle.decimation_repair.specs.Laws.{FoundIsSolution, EndRefutes}
 use Rattle.instance_search.specs.Searched.{IsWalked, Searches, at_once, by_walk}
 use Rattle.instance_search.specs.Rated.{AreRated}
 use Rattle.instance_search.specs.Laws.{FoundIsFinished, EmptyRefutes, SpentIsFull}
-use Rattle.instance_search.specs.declared.answer.Answer.TheVariants.{Found, Empty, Spent}
+use Rattle.instance_search.specs.declared.answer.Answer.TheVariants.{Empty, Spent}
 use Rattle.instance_search.proofs.FrontLemmas.{front_written, written_whole, written_length}
 
 -- ---- found

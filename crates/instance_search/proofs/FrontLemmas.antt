@@ -70,7 +70,7 @@ walk_front g choose nodes left w =
     let f = grow g choose nodes (root ∷ []) left w in (
       f.0,
       sym (take-append_seam nodes (leaves left))
-      ∙ ap (take (length nodes)) (f.2 ∙ ap (λ l. preorder None f.0 ++ l) f.3 ∙ append-nil (preorder None f.0)),
+          ∙ ap (take (length nodes)) (f.2 ∙ ap (λ l. preorder None f.0 ++ l) f.3 ∙ append-nil (preorder None f.0)),
     )
 
 -- ---- what is written

@@ -1,31 +1,27 @@
 -- An instance has one answer.
-use Rattle.std.proofs.Common.{◌≡◌, ◌≢◌, ℕ, zero, suc, ◌+◌, ◌<◌, ◌≤◌, Bool, true, false, not, ◌&&◌, List, [], ◌∷◌, length, get_or, map, refl, sym, ◌∙◌, ap, subst, arith, inl, inr, eqb, ltb}
+use Rattle.std.proofs.Common.{◌≡◌, ◌≢◌, ℕ, ◌+◌, ◌<◌, true, not, ◌&&◌, List, [], length, get_or, map, refl, sym, ◌∙◌, ap, subst, arith, inl, inr, eqb, ltb}
 use Rattle.std.proofs.lemmas.Bool.{cases_lt, cases_Bool, and_parts, and_from, eq-eqb, eqb-true, le-ltb}
 use Rattle.std.proofs.lemmas.List.{ext_get_or, get_or-map, length-map, get_or_default}
-use Rattle.pkg_world.specs.Listing.{Listing}
-use Rattle.version_graph.specs.Graph.{Graph, packages, states, last, is_barred, is_offered, is_forbidden, IsGraph, IsListOf}
-use Rattle.version_graph.specs.Family.{HasEmpty, EmptyIsEverywhere, under}
+use Rattle.version_graph.specs.Graph.{Graph, packages, states, is_barred, is_offered, is_forbidden, IsGraph, IsListOf}
 use Rattle.version_graph.specs.Part.{Part, package_of, states_of, state_of}
 use Rattle.graph_pruning.specs.Pruned.{Pruning, left, OnePruning, SamePruning}
 use Rattle.graph_pruning.specs.Marked.{does_stand}
 use Rattle.graph_pruning.specs.Reduced.{IsStanding, IsReduction, IsWidenedTo}
 use Rattle.graph_pruning.proofs.PruneLemmas.{same_truth}
-use Rattle.graph_pruning.proofs.ReduceLemmas.{home}
 use Rattle.refutation_log.specs.Moved.{moved_nodes}
 use Rattle.raise_pass.specs.Finishing.{Finishes}
 use Rattle.raise_pass.specs.Laws.{OneFinish}
-use Rattle.maxsum_messages.specs.Field.{field}
 use Rattle.maxsum_messages.proofs.OneList.{list-one}
 use Rattle.decimation_repair.specs.Levels.{Levels, zero_levels}
 use Rattle.decimation_repair.specs.Choice.{BeliefChoice}
 use Rattle.decimation_repair.specs.Laws.{OneWalk, WalkIsOne}
 use Rattle.instance_search.specs.Rated.{AreRated}
-use Rattle.instance_search.specs.Searched.{IsFinishedFrom, EndsByWalk, EndsAtOnce, IsWalked, IsDeadEnd, Searches, at_once, by_walk}
+use Rattle.instance_search.specs.Searched.{IsFinishedFrom, EndsByWalk, EndsAtOnce, IsWalked, IsDeadEnd, at_once, by_walk}
 use Rattle.instance_search.specs.Laws.{TellSame, AnswerIsOne}
 use Rattle.instance_search.specs.declared.answer.Answer.{Answer}
 use Rattle.instance_search.specs.declared.answer.Answer.TheVariants.{Found, Empty, Spent}
 use Rattle.instance_search.proofs.FrontLemmas.{written_moved}
-use Rattle.instance_search.proofs.AlikeLemmas.{Alike, turned, finds_on, ends_on, spends_on}
+use Rattle.instance_search.proofs.AlikeLemmas.{Alike, finds_on, ends_on, spends_on}
 
 -- ---- one pruning
 
@@ -189,8 +185,8 @@ same-weights g h k b f e sizes a c =
         let wide : states h p ≡ states k p = ap (λ l. get_or l p 0) sizes in
         ext_get_or zero_levels (get_or f p []) (get_or e p []) (a.shape.wide p known ∙ wide ∙ sym (c.shape.wide p there))
         (λ i low.
-          let state : i < states h p = (let l = a.shape.wide p known in omega (arith, low, l)) in
-          a.each p i known state ∙ sym (c.each p i there (omega (arith, state, wide))))
+        let state : i < states h p = (let l = a.shape.wide p known in omega (arith, low, l)) in
+        a.each p i known state ∙ sym (c.each p i there (omega (arith, state, wide))))
 
 -- ---- one end
 

@@ -1,6 +1,6 @@
 -- The walk of a pruned instance has no more nodes than the product over the packages of the instance.
-use Rattle.std.proofs.Common.{◌≡◌, ℕ, zero, suc, ◌+◌, ◌*◌, ◌<◌, ◌≤◌, refl, sym, subst, arith, inl, inr}
-use Rattle.std.proofs.lemmas.Bool.{cases_eq, cases_lt}
+use Rattle.std.proofs.Common.{◌≡◌, ℕ, zero, suc, ◌+◌, ◌<◌, ◌≤◌, refl, sym, subst, arith, inl, inr}
+use Rattle.std.proofs.lemmas.Bool.{cases_eq}
 use Rattle.std.proofs.Math.Nat.{mul-le-mul_left, mul-le-mul_right, mul-one, one-le-mul}
 use Rattle.version_graph.specs.Graph.{Graph, packages, states}
 use Rattle.version_graph.specs.Part.{Part, package_of, state_of}
@@ -15,7 +15,6 @@ use Rattle.instance_search.specs.Laws.{ProductSuffices}
 product-some : (f : ℕ → ℕ) → ((p : ℕ) → 1 ≤ f p) → (n : ℕ) → 1 ≤ product_below f n
 product-some f some zero = omega arith
 product-some f some (suc n) = one-le-mul (product-some f some n) (some n)
-
 
 most-some : (g : Graph) (n : ℕ) → 1 ≤ product_below (λ p. states g p + 1) n
 most-some g n = product-some (λ p. states g p + 1) (λ p. omega arith) n

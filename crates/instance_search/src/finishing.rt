@@ -29,12 +29,6 @@ pub(crate) fn finish(
     let needs = instance.needs(alloc)?;
     let mut scratch = RaiseScratch::make(alloc, instance)?;
     let mut states = reduced.widened(alloc, instance, chosen)?;
-    raise(
-        instance,
-        roots.items(),
-        &needs,
-        &mut states,
-        &mut scratch,
-    );
+    raise(instance, roots.items(), &needs, &mut states, &mut scratch);
     Ok(states)
 }

@@ -9,7 +9,5 @@ mod rating;
 mod searching;
 
 pub use answer::Answer;
-pub use laws::{
-    answer_is_one, empty_refutes, found_is_finished, product_suffices, spent_is_full,
-};
+pub use laws::{answer_is_one, empty_refutes, found_is_finished, product_suffices, spent_is_full};
 pub use searching::search_instance;

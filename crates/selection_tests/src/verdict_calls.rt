@@ -96,16 +96,16 @@ fn raise_text(alloc: Global, raise: Option<(u32, u32)>) -> Result<String, AllocE
     }
 }
 
-fn verdict_text(alloc: Global, verdict: Verdict) -> Result<String, AllocError> {
+fn verdict_text(alloc: Global, verdict: &Verdict) -> Result<String, AllocError> {
     match verdict {
         Verdict::Good => format!(in alloc; "Good"),
-        Verdict::MissingRoot(uuid) => named(alloc, "MissingRoot", &uuid),
-        Verdict::NoOffer(uuid) => named(alloc, "NoOffer", &uuid),
-        Verdict::MissingDep(from, uuid) => pair(alloc, "MissingDep", &from, &uuid),
-        Verdict::Outside(Some(from), uuid) => pair(alloc, "Outside", &from, &uuid),
-        Verdict::Outside(None, uuid) => named(alloc, "Outside -", &uuid),
-        Verdict::PinBroken(uuid) => named(alloc, "PinBroken", &uuid),
-        Verdict::Unneeded(uuid) => named(alloc, "Unneeded", &uuid),
+        Verdict::MissingRoot(uuid) => named(alloc, "MissingRoot", uuid),
+        Verdict::NoOffer(uuid) => named(alloc, "NoOffer", uuid),
+        Verdict::MissingDep(from, uuid) => pair(alloc, "MissingDep", from, uuid),
+        Verdict::Outside(Some(from), uuid) => pair(alloc, "Outside", from, uuid),
+        Verdict::Outside(None, uuid) => named(alloc, "Outside -", uuid),
+        Verdict::PinBroken(uuid) => named(alloc, "PinBroken", uuid),
+        Verdict::Unneeded(uuid) => named(alloc, "Unneeded", uuid),
     }
 }
 
@@ -138,7 +138,7 @@ fn told(
                 format!(in alloc; "many")
             }
         }
-        verdict => verdict_text(alloc, verdict),
+        verdict => verdict_text(alloc, &verdict),
     }
 }
 

@@ -1,6 +1,4 @@
 use Rattle.std.proofs.Common.{map}
-use Rattle.std.proofs.lemmas.Option.{MatchOption-at_some, MatchOption-at_none}
-use Rattle.std.proofs.Common.{sym}
 use Rattle.offer_terms.specs.Offered.{offering}
 use Rattle.book_graph.proofs.States.{bars_offered, offered_nowhere}
 use Rattle.book_graph.proofs.barring.bar.Goals as goal

@@ -1,4 +1,4 @@
-use Rattle.std.proofs.Common.{arith, sym, subst}
+use Rattle.std.proofs.Common.{arith, subst}
 use Rattle.jl_versions.specs.Triple.{triple_of}
 use Rattle.book_graph.specs.Building.{Bars, IsAmong, refuses_julia}
 use Rattle.book_graph.proofs.Steps.{bars_begin, bars_next}

@@ -1,4 +1,4 @@
-use Rattle.std.proofs.Common.{length, map, arith}
+use Rattle.std.proofs.Common.{map, arith}
 use Rattle.std.proofs.lemmas.List.{length-map}
 use Rattle.offer_terms.specs.Offered.{offering}
 use Rattle.book_graph.specs.Building.{IsAmongAt}

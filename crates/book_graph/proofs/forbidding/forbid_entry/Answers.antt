@@ -1,7 +1,7 @@
 use Rattle.std.proofs.Common.{map, not}
 use Rattle.jl_versions.specs.Triple.{triple_of}
 use Rattle.compat_spec.specs.Admitted.{allowed_holds}
-use Rattle.offer_terms.specs.Offered.{Offering, offering, allowing, allows}
+use Rattle.offer_terms.specs.Offered.{Offering, offering, allows}
 use Rattle.version_graph.proofs.BuildLemmas.{on-ok}
 use Rattle.book_graph.specs.Building.{is_refused}
 use Rattle.book_graph.proofs.Pairs.{forbids_offered, offered_nowhere_else, entry_refuses}

@@ -1,6 +1,4 @@
-use Rattle.std.proofs.Common.{sym, ◌∙◌}
-use Rattle.book_graph.proofs.Pairs.{forbids_these, forbids_unwanted}
-use Rattle.book_graph.proofs.States.{not_true}
+use Rattle.book_graph.proofs.Pairs.{forbids_unwanted}
 use Rattle.book_graph.proofs.forbidding.forbid_if.Goals as goal
 
 pub returns-then-not-wanted : goal.returns-then-not-wanted

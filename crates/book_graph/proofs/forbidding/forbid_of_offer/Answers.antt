@@ -1,4 +1,4 @@
-use Rattle.std.proofs.Common.{Some, subst, map}
+use Rattle.std.proofs.Common.{subst, map}
 use Rattle.std.proofs.lemmas.Option.{slice_get_within}
 use Rattle.offer_terms.specs.Offered.{Text, Id, Allows, offering, allowing}
 use Rattle.offer_terms.specs.Booked.{package_at}

@@ -1,8 +1,6 @@
-use Rattle.std.proofs.Common.{◌≡◌, length, map, slice_get, Some, arith, sym, ap, ◌∙◌}
+use Rattle.std.proofs.Common.{length, slice_get, arith, sym, ap, ◌∙◌}
 use Rattle.std.proofs.lemmas.List.{length-map}
 use Rattle.offer_terms.specs.Offered.{offering}
-use Rattle.offer_terms.specs.Booked.{package_at}
-use Rattle.book_graph.specs.StandsFor.{offer_in}
 use Rattle.book_graph.proofs.Steps.{forbids_begin, forbids_next, mapped_at}
 use Rattle.book_graph.proofs.Pairs.{of_state, state_excludes, forbids_of_package}
 use Rattle.book_graph.proofs.forbidding.forbid_of_package.Goals as goal

@@ -1,7 +1,7 @@
 use Rattle.std.proofs.Common.{arith}
 use Rattle.offer_terms.specs.Demanded.{wanted}
 use Rattle.book_graph.specs.StandsFor.{sizes_of}
-use Rattle.book_graph.proofs.Counts.{within_total, past_total}
+use Rattle.book_graph.proofs.Counts.{within_total}
 use Rattle.book_graph.proofs.Made.{stands_from, same_graph, past_sums, if_ok, on_ok, if_err}
 use Rattle.book_graph.proofs.making.make_instance.Goals as goal
 

@@ -1,6 +1,4 @@
-use Rattle.std.proofs.Common.{◌≡◌, ℕ, ◌<◌, length, sum, sym, ap, ◌∙◌, subst, arith}
-use Rattle.std.proofs.lemmas.List.{length-map}
-use Rattle.book_graph.specs.StandsFor.{state_count}
+use Rattle.std.proofs.Common.{◌∙◌}
 use Rattle.book_graph.proofs.Counts.{some_states}
 use Rattle.book_graph.proofs.Made.{sized_from}
 use Rattle.book_graph.proofs.making.open_builder.Goals as goal

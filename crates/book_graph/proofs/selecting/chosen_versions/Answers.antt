@@ -1,8 +1,5 @@
-use Rattle.std.proofs.Common.{◌≡◌, option_map, arith, sym, ap, ◌∙◌, subst}
-use Rattle.std.proofs.lemmas.List.{get_or_read}
+use Rattle.std.proofs.Common.{arith, ap, ◌∙◌}
 use Rattle.offer_terms.specs.Offered.{version_in}
-use Rattle.book_graph.specs.StandsFor.{id_of, offer_in}
-use Rattle.book_graph.specs.Chosen.{Puts}
 use Rattle.book_graph.proofs.Selected.{below_none, below_more, below_all}
 use Rattle.book_graph.proofs.selecting.chosen_versions.Goals as goal
 

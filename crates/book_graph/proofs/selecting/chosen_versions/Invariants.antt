@@ -1,5 +1,5 @@
 -- What is chosen of the packages so far is put.
-use Rattle.std.proofs.Common.{◌≡◌, ℕ, List}
+use Rattle.std.proofs.Common.{◌≡◌}
 use Rattle.offer_terms.specs.Offered.{Id, version_in}
 use Rattle.book_graph.proofs.Selected.{chosen_below}
 use Rattle.book_graph.proofs.selecting.chosen_versions.Given as goal

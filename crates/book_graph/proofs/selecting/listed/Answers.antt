@@ -1,4 +1,4 @@
-use Rattle.std.proofs.Common.{◌≡◌, [], ◌++◌, map, ap, sym, ◌∙◌, append-nil, subst, arith}
+use Rattle.std.proofs.Common.{◌≡◌, [], ◌++◌, map, ap, ◌∙◌, append-nil, subst, arith}
 use Rattle.std.proofs.lemmas.Grind.{common_steps}
 use Rattle.offer_terms.specs.ById.{AreRising}
 use Rattle.book_graph.proofs.selecting.listed.Goals as goal

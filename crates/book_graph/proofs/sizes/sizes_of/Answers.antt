@@ -1,7 +1,6 @@
-use Rattle.std.proofs.Common.{◌≡◌, ◌+◌, ◌++◌, ◌∷◌, [], ◌<◌, length, map, take, get_or, refl, sym, ap, ◌∙◌, subst, arith}
+use Rattle.std.proofs.Common.{◌≡◌, ◌+◌, ◌++◌, ◌∷◌, [], ◌<◌, length, get_or, sym, ap, ◌∙◌, arith}
 use Rattle.std.proofs.lemmas.List.{length-map, take_all, take_more}
 use Rattle.offer_terms.specs.Offered.{offering}
-use Rattle.offer_terms.specs.Booked.{package_at}
 use Rattle.book_graph.specs.StandsFor.{sizes_of, state_count}
 use Rattle.book_graph.proofs.Counts.{count_at, few_offers}
 use Rattle.book_graph.proofs.sizes.sizes_of.Goals as goal

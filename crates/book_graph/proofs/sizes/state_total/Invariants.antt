@@ -1,5 +1,5 @@
 -- The states of the packages so far are counted, and their offers rise.
-use Rattle.std.proofs.Common.{◌≡◌, ℕ, ◌<◌, ◌-◌, ◌^◌, length, map, take, sum}
+use Rattle.std.proofs.Common.{◌≡◌, ℕ, ◌<◌, ◌-◌, ◌^◌, map, take, sum}
 use Rattle.std.specs.Prelude.{min}
 use Rattle.std.specs.List.Sorted.{IsStrictlySortedBy}
 use Rattle.jl_versions.specs.Order.{version_cmp}

@@ -1,4 +1,4 @@
-use Rattle.std.proofs.Common.{◌≡◌, arith, subst, sym, inl, inr}
+use Rattle.std.proofs.Common.{arith, subst, sym, inl, inr}
 use Rattle.std.proofs.lemmas.Bool.{cases_eq}
 use Rattle.version_graph.specs.Graph.{states}
 use Rattle.instance_search.specs.Rated.{AreRatedAt}

@@ -1,0 +1,3 @@
+mod Bounds
+mod Faults
+mod Classes
