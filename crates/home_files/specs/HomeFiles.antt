@@ -1,0 +1,58 @@
+-- What the two files of the active project say, where both must be there, or the first of them that is missing or refused.
+-- (Pkg, Project.toml and Manifest.toml; where they lie: Julia manual, Code Loading.)
+--     home_files files place     the paths of both and what they say, or the first refusal
+use Rattle.std.specs.Prelude.{◌≡◌, if◌then◌else◌, Ok, Err}
+use Rattle.pkg_world.specs.Each.{then_ok}
+use Rattle.pkg_world.specs.Path.{Path}
+use Rattle.pkg_world.specs.Tree.{Files, holds, is_file}
+use Rattle.pkg_world.specs.declared.place.Home.{Home}
+use Rattle.pkg_world.specs.declared.place.Place.{Place}
+use Rattle.registry_tables.specs.Answers.{Read, missing}
+use Rattle.registry_tables.specs.declared.fault.RegFault.{RegFault}
+use Rattle.registry_tables.specs.declared.fault.RegFault.TheVariants.{ReadFault, MissingFile, BadFile, Memory}
+use Rattle.project_file.specs.Said as project
+use Rattle.manifest_file.specs.Said.{said as said_manifest}
+use Rattle.manifest_file.specs.Saying as manifest
+use Rattle.project_places.specs.Active.{active_file}
+use Rattle.project_places.specs.Files as places
+use Rattle.project_places.specs.ManifestPath.{manifest_path}
+use Rattle.fixed_packages.specs.FixedPackages.{read_as, project_needed}
+use Rattle.home_files.specs.declared.reading.HomeFiles as code
+
+pub record HomeFiles : Type 0 where
+  pub home : Home
+  pub project : project.Said
+  pub manifest : manifest.Said
+
+-- both files without the room of their lists
+abbrev pub seen : code.HomeFiles → HomeFiles
+seen it = record { home = it.home; project = project.said it.project; manifest = said_manifest it.manifest }
+
+abbrev pub manifest_read : Files → Path → Read manifest.Said
+manifest_read files path = read_as (places.at_file path (places.manifest_in (holds path files)))
+
+-- the manifest at a path, which must be there
+abbrev pub manifest_needed : Files → Path → Read manifest.Said
+manifest_needed files path = if is_file (holds path files) then manifest_read files path else Err (missing path)
+
+abbrev pub joined : Path → project.Said → Path → manifest.Said → HomeFiles
+joined file said path found = record { home = record { project = file; manifest = path }; project = said; manifest = found }
+
+abbrev pub with_manifest : Files → Path → project.Said → Path → Read HomeFiles
+with_manifest files file said path = then_ok (manifest_needed files path) (λ found. Ok (joined file said path found))
+
+abbrev pub with_project : Files → Path → project.Said → Read HomeFiles
+with_project files file said = then_ok (read_as (places.at_file file (manifest_path files file said.manifest))) (with_manifest files file said)
+
+abbrev pub at_file : Files → Path → Read HomeFiles
+at_file files file = then_ok (project_needed files file) (with_project files file)
+
+abbrev pub home_files : Files → Place → Read HomeFiles
+home_files files place = at_file files (active_file files place)
+
+-- the fault of a file that isn't there, or want of memory
+abbrev pub IsMissing : Path → RegFault → Type 0
+IsMissing path (ReadFault at) = ⊥
+IsMissing path (MissingFile at) = at ≡ path
+IsMissing path (BadFile at cause) = ⊥
+IsMissing path Memory = Unit {0}
