@@ -8,9 +8,7 @@ ghost use Rattle.home_files.specs.HomeFiles as spec;
 use manifest_file::Manifest;
 use pkg_world::{Duplicate, Home, NormPath, Place, Store};
 use project_file::Project;
-use project_places::{
-    EnvFault, active_project, is_there, manifest_at, manifest_path, project_at,
-};
+use project_places::{EnvFault, active_project, is_there, manifest_at, manifest_path, project_at};
 use registry_tables::RegFault;
 use std::alloc::Global;
 
