@@ -1,0 +1,3 @@
+pub mod Lines
+pub mod CheckDue
+pub mod Answered

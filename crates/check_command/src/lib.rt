@@ -1,0 +1,8 @@
+//! The command `check`: whether what the manifest says is valid, and what could be raised.
+#![tactic(auto)]
+
+mod check_answer;
+mod judging;
+mod lines;
+
+pub use check_answer::check;
