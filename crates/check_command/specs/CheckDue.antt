@@ -4,7 +4,8 @@
 -- The refusals come in this order: the project file and then the manifest, which must both be there; the files of the catalog;
 -- Julia's version, and then what is to be fetched; the tables of the packages that are reached from the roots and from what
 -- the manifest selects, roots without a source, and too many packages; too many states. Then the verdict, where it isn't good.
-use Rattle.std.specs.Prelude.{◌≡◌, ℕ, ◌+◌, ◌-◌, ◌^◌, Bool, nat_lt, min, if◌then◌else◌, List, length, map, sum, slice_get, Option, Some, None, option_map, Result, Ok, Err}
+use Rattle.std.specs.Prelude.{◌≡◌, ℕ, ◌+◌, ◌-◌, ◌^◌, Bool, nat_lt, min, if◌then◌else◌, List, length, slice_get, Option, Some, None, option_map, Result, Ok, Err}
+use Rattle.std.specs.List.{sum_by}
 use Rattle.std.specs.Map.{keys_of}
 use Rattle.jl_versions.specs.declared.version.Version.{Version}
 use Rattle.pkg_world.specs.Each.{then_ok}
@@ -62,8 +63,11 @@ told_book (Err (unknown uuid)) = Err (UnknownPackage uuid)
 told_book (Err too_many) = Err (Limit Packages 4097)
 
 -- the states of a package are its offers, and that it is absent
+abbrev pub package_states : Packed → ℕ
+package_states it = length it.offers + 1
+
 abbrev pub states_of : List Packed → ℕ
-states_of book = sum (map (λ it. length it.offers + 1) book)
+states_of book = sum_by package_states book
 
 -- a count stands still at its type's end
 abbrev pub states_told : List Packed → ℕ

@@ -1,1 +1,2 @@
 pub mod Depots
+mod DueLemmas

@@ -1,0 +1,3 @@
+mod StateLemmas
+mod JudgeLemmas
+pub mod LiftLemmas
