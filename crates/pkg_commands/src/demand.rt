@@ -126,7 +126,7 @@ fn push_spec(
     uuid: Uuid,
     on: Option<&Spec>,
 ) -> Result<(), AllocError>
-    ensures { OnOk result (map spec_entry specs.new.items ≡ map spec_entry specs.old.items ++ option_to_list (option_map (λ parts. (uuid, parts)) (option_copied on))) }
+    ensures { OnOk result (map spec_entry specs.new.items ≡ map spec_entry specs.old.items ++ option_to_list (option_map (λ parts. (uuid, parts)) (option_copied on.entry))) }
 {
     if let Some(spec) = on {
         let spec = spec.copy(alloc)?;

@@ -33,7 +33,7 @@ pub(crate) fn unfetched<'a>(
 
 /// Whether the source of a package is no address, or one that a stanza of its identifier has fetched.
 fn is_fetched(source: Option<&Source>, uuid: &Uuid, stanzas: &[Stanza]) -> bool
-    ensures { result ≡ spec.is_fetched (map said_stanza stanzas.now) uuid.now (option_copied source) }
+    ensures { result ≡ spec.is_fetched (map said_stanza stanzas.now) uuid.now (option_copied source.entry) }
 {
     match source {
         None => true,
