@@ -3,6 +3,7 @@ use Rattle.std.proofs.Common.{◌≡◌, ℕ, List, Some, None, Result, Ok, Err,
 use Rattle.std.specs.declared.alloc.Global.{Global}
 use Rattle.std.specs.List.{slice_get}
 use Rattle.std.proofs.lemmas.Option.{slice_get-map}
+use Rattle.jl_versions.specs.declared.version.Version.{Version}
 use Rattle.offer_terms.specs.Offered.{Id, Selected, offering}
 use Rattle.offer_terms.specs.Booked.{Packed, package_at, book_offers}
 use Rattle.offer_terms.specs.Demanded.{Wanted}
@@ -31,7 +32,7 @@ module _ (book : List Packed) (w : Wanted) (s : Selected) (valid : IsValid (book
   pub good_raise : {E : Type 0} (p j : ℕ) → IsLeastRaise book w s p j → (result : Result (String Global) E) → IfOk result (λ text. string_bytes text ≡ good_text (raised_to book p j))
       → IfOk result (λ text. IsGood (judged_by book w s) (string_bytes text))
   good_raise p j least (Ok text) told =
-      let raise = ((package_at book p).uuid, least.here.offer.version) in
+      let raise : Id × Version = ((package_at book p).uuid, least.here.offer.version) in
       let named : raised_to book p j ≡ Some raise = ap (option_map (λ o. ((package_at book p).uuid, o.version))) least.here.there in
       record {
         valid = valid;

@@ -15,9 +15,10 @@ use Rattle.offer_book.specs.AllOffers.{all_offers}
 use Rattle.offer_book.specs.Gathered.{gathered}
 use Rattle.offer_book.specs.Laws.{ValidAlike, RaisedAlike}
 use Rattle.pkg_world.specs.declared.cause.LimitKind.TheVariants.{States}
+use Rattle.pkg_commands.specs.Edit.{Edited, EditRefusal}
 use Rattle.command_answers.specs.declared.status.Status.{Status}
 use Rattle.command_answers.specs.declared.status.Status.TheVariants.{Ok as StatusOk, BadWords, MissingFile, BadFile, NeedsFetch, NoIdentity, NoSource, ReadFault, UnknownName, UnknownPackage, AmbiguousName, Limit, Differs, NotInManifest, WrongJulia, NotBuilt, Memory, SinkFault}
-use Rattle.check_command.specs.CheckDue.{Judged, judged_by, states_told, if_few, with_book, with_demand, told_book, IsRaise, IsGood, IsBroken, IsJudgement, IsAnswerOn}
+use Rattle.check_command.specs.CheckDue.{Judged, judged_by, states_told, if_few, with_book, with_demand, with_selection, told_book, IsRaise, IsGood, IsBroken, IsJudgement, IsAnswerOn}
 use Rattle.check_command.specs.Answered.{RefusesBy, AnswersBy, AnswersOn}
 
 pub refuses_as : (One Other : Result (List ℕ) Status → Type 0) → ((answer : Result (List ℕ) Status) → One answer → Other answer) → (status : Status) → RefusesBy One status → RefusesBy Other status
@@ -93,3 +94,13 @@ by_gathered valid_law raised_law None catalog w s extra book gathers same answer
 by_gathered valid_law raised_law (Some files) catalog w s extra book gathers same answer h =
     answers_as (IsAnswerOn (with_book (book_offers book) w s book)) (IsAnswerOn (with_demand files catalog s w))
     (by_demand valid_law raised_law files catalog w s extra book gathers same) answer h
+
+-- the answer by a demand that the edit gave
+pub by_edit : (told : Option Files) (catalog : SaidCatalog) (s : Selected) (edit : Result Edited EditRefusal) (it : Edited) → edit ≡ Ok it → (answer : Result (String Global) Status)
+    → IfSome told (λ files. AnswersOn (with_demand files catalog s it.demand) answer) → IfSome told (λ files. AnswersOn (with_selection files catalog s edit) answer)
+by_edit told catalog s edit it is answer h = subst (λ e. IfSome told (λ files. AnswersOn (with_selection files catalog s e) answer)) (sym is) h
+
+-- what comes nowhere
+pub nowhere : (told : Option Files) (P : Files → Type 0) → IfSome told (λ files. ⊥) → IfSome told P
+nowhere None P h = tt
+nowhere (Some files) P h = absurd h

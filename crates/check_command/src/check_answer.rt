@@ -1,13 +1,14 @@
 //! `check`: the phases before the verdict.
 ghost use Rattle.std.specs.Prelude.{◌≡◌, ◌≤◌, ◌<◌, Ok, IfSome, IfOk, IfErr, OnOk, map};
 ghost use Rattle.std.specs.Map.{keys_of};
+ghost use Rattle.offer_terms.specs.Booked.{book_offers};
 ghost use Rattle.offer_terms.specs.Demanded.{wanted};
 ghost use Rattle.project_file.specs.Said.{said as said_project};
 ghost use Rattle.manifest_file.specs.Said.{said as said_manifest};
 ghost use Rattle.home_files.specs.HomeFiles.{seen as seen_files};
 ghost use Rattle.pkg_commands.specs.Edit.{edited as edit_meant};
 ghost use Rattle.pkg_commands.specs.declared.command.Command.TheVariants.{Resolve};
-ghost use Rattle.command_answers.specs.Answers.{ReadFaultRose, IsLate, IsUnprinted};
+ghost use Rattle.command_answers.specs.Answers.{ReadFaultRose, NoFault, IsLate, IsUnprinted};
 ghost use Rattle.check_command.specs.CheckDue as spec;
 ghost use Rattle.check_command.specs.Answered.{AnswersBy, AnswersOn};
 
@@ -16,7 +17,7 @@ use command_answers::Status;
 use home_files::{HomeFiles, home_files};
 use manifest_file::Manifest;
 use offer_book::laws::{raised_alike, valid_alike};
-use offer_book::{BookFault, Catalog, Demand, Selection, gather};
+use offer_book::{Book, BookFault, Catalog, Demand, Selection, gather};
 use pkg_commands::{Command, EditFault, apply};
 use pkg_world::{Ids, Listed, Place, Store};
 use project_file::Project;
@@ -74,8 +75,9 @@ fn of_files<S: Store>(
         Err(BookFault::ReadFault(path)) => Err(Status::ReadFault(path)),
         Err(BookFault::MissingFile(path)) => Err(Status::MissingFile(path)),
         Err(BookFault::BadFile(path, cause)) => Err(Status::BadFile(path, cause)),
-        Err(BookFault::UnknownPackage(_)) => unreachable!(),
-        Err(BookFault::Limit(..)) => unreachable!(),
+        // A catalog never answers the next two.
+        Err(BookFault::UnknownPackage(uuid)) => Err(Status::UnknownPackage(uuid)),
+        Err(BookFault::Limit(kind, count)) => Err(Status::Limit(kind, count)),
         Err(BookFault::Memory) => Err(Status::Memory),
     }
 }
@@ -184,7 +186,7 @@ fn of_extra<S: Store>(
     valid_alike();
     raised_alike();
     match gather(alloc, store, catalog, demand, extra) {
-        Ok(book) => of_book(alloc, demand, selection, &book),
+        Ok(book) => of_gathered(alloc, demand, selection, book),
         Err(BookFault::ReadFault(path)) => Err(Status::ReadFault(path)),
         Err(BookFault::MissingFile(path)) => Err(Status::MissingFile(path)),
         Err(BookFault::BadFile(path, cause)) => Err(Status::BadFile(path, cause)),
@@ -192,4 +194,19 @@ fn of_extra<S: Store>(
         Err(BookFault::Limit(kind, count)) => Err(Status::Limit(kind, count)),
         Err(BookFault::Memory) => Err(Status::Memory),
     }
+}
+
+/// The same by a book, which is let go.
+fn of_gathered(
+    alloc: Global,
+    demand: &Demand,
+    selection: &Selection,
+    book: Book,
+) -> Result<String, Status>
+    ensures answer { AnswersOn (spec.with_book (book_offers book) (wanted demand.now) selection.now.items book) result }
+    ensures late { IfErr result IsLate }
+    ensures unprinted { IfErr result IsUnprinted }
+    ensures fault { IfErr result NoFault }
+{
+    of_book(alloc, demand, selection, &book)
 }
