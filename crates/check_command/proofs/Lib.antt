@@ -1,3 +1,4 @@
 mod StateLemmas
 mod JudgeLemmas
 pub mod LiftLemmas
+mod RefusalLemmas

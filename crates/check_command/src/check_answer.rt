@@ -13,11 +13,12 @@ ghost use Rattle.check_command.specs.CheckDue as spec;
 ghost use Rattle.check_command.specs.Answered.{AnswersBy, AnswersOn};
 
 use crate::judging::of_book;
+use crate::refusals::book_status;
 use command_answers::Status;
 use home_files::{HomeFiles, home_files};
 use manifest_file::Manifest;
 use offer_book::laws::{raised_alike, valid_alike};
-use offer_book::{Book, BookFault, Catalog, Demand, Selection, gather};
+use offer_book::{Book, Catalog, Demand, Selection, gather};
 use pkg_commands::{Command, EditFault, apply};
 use pkg_world::{Ids, Listed, Place, Store};
 use project_file::Project;
@@ -72,13 +73,7 @@ fn of_files<S: Store>(
     } = files;
     match Catalog::load(alloc, store, place, &home, &project, &manifest) {
         Ok(catalog) => of_catalog(alloc, place, store, &catalog, project, manifest),
-        Err(BookFault::ReadFault(path)) => Err(Status::ReadFault(path)),
-        Err(BookFault::MissingFile(path)) => Err(Status::MissingFile(path)),
-        Err(BookFault::BadFile(path, cause)) => Err(Status::BadFile(path, cause)),
-        // A catalog never answers the next two.
-        Err(BookFault::UnknownPackage(uuid)) => Err(Status::UnknownPackage(uuid)),
-        Err(BookFault::Limit(kind, count)) => Err(Status::Limit(kind, count)),
-        Err(BookFault::Memory) => Err(Status::Memory),
+        Err(fault) => Err(book_status(fault)),
     }
 }
 
@@ -187,12 +182,7 @@ fn of_extra<S: Store>(
     raised_alike();
     match gather(alloc, store, catalog, demand, extra) {
         Ok(book) => of_gathered(alloc, demand, selection, book),
-        Err(BookFault::ReadFault(path)) => Err(Status::ReadFault(path)),
-        Err(BookFault::MissingFile(path)) => Err(Status::MissingFile(path)),
-        Err(BookFault::BadFile(path, cause)) => Err(Status::BadFile(path, cause)),
-        Err(BookFault::UnknownPackage(uuid)) => Err(Status::UnknownPackage(uuid)),
-        Err(BookFault::Limit(kind, count)) => Err(Status::Limit(kind, count)),
-        Err(BookFault::Memory) => Err(Status::Memory),
+        Err(fault) => Err(book_status(fault)),
     }
 }
 

@@ -4,5 +4,6 @@
 mod check_answer;
 mod judging;
 mod lines;
+mod refusals;
 
 pub use check_answer::check;
