@@ -1,5 +1,5 @@
 -- The answer on a selection by what a book offers.
-use Rattle.std.proofs.Common.{◌≡◌, ℕ, List, Some, None, Result, Ok, Err, IfOk, String, string_bytes, map, option_map, refl, sym, ap, ◌∙◌}
+use Rattle.std.proofs.Common.{◌≡◌, ℕ, List, Some, None, Result, Ok, Err, IfOk, String, string_bytes, map, option_map, sym, ap, ◌∙◌}
 use Rattle.std.specs.declared.alloc.Global.{Global}
 use Rattle.std.specs.List.{slice_get}
 use Rattle.std.proofs.lemmas.Option.{slice_get-map}
@@ -13,7 +13,7 @@ use Rattle.selection_check.specs.Laws.{ValidBreaksNone}
 use Rattle.selection_check.specs.Raises.{IsLeastRaise, RaisesNone}
 use Rattle.selection_check.specs.Verdicts.{IsFirstBreach}
 use Rattle.selection_check.specs.declared.verdict.Verdict.{Verdict}
-use Rattle.check_command.specs.CheckDue.{judged_by, raised_to, IsBreach, IsGood, IsFirstRaise}
+use Rattle.check_command.specs.CheckDue.{judged_by, raised_to, IsBreach, IsGood}
 use Rattle.check_command.specs.Lines.{good_line, good_text}
 
 -- a selection that breaks a clause isn't valid

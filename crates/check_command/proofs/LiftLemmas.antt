@@ -1,11 +1,11 @@
 -- What a book's offers say of a selection, the offers of all packages say.
-use Rattle.std.proofs.Common.{◌≡◌, ℕ, Bool, true, false, cond, List, Option, Some, None, IfSome, Result, Ok, Err, String, string_bytes, nat_lt, sym, ap, subst}
+use Rattle.std.proofs.Common.{◌≡◌, ℕ, Bool, true, false, cond, List, Option, Some, None, IfSome, Result, Ok, Err, String, string_bytes, nat_lt, sym, subst}
 use Rattle.std.specs.declared.alloc.Global.{Global}
 use Rattle.std.specs.Map.{keys_of}
 use Rattle.jl_versions.specs.declared.version.Version.{Version}
 use Rattle.pkg_world.specs.Each.{then_ok}
 use Rattle.pkg_world.specs.Tree.{Files}
-use Rattle.offer_terms.specs.Offered.{Id, Offers, Selected}
+use Rattle.offer_terms.specs.Offered.{Id, Selected}
 use Rattle.offer_terms.specs.Booked.{Packed, book_offers}
 use Rattle.offer_terms.specs.Demanded.{Wanted}
 use Rattle.offer_terms.specs.Feasible.{IsValid}
@@ -18,7 +18,7 @@ use Rattle.pkg_world.specs.declared.cause.LimitKind.TheVariants.{States}
 use Rattle.pkg_commands.specs.Edit.{Edited, EditRefusal}
 use Rattle.command_answers.specs.declared.status.Status.{Status}
 use Rattle.command_answers.specs.declared.status.Status.TheVariants.{Ok as StatusOk, BadWords, MissingFile, BadFile, NeedsFetch, NoIdentity, NoSource, ReadFault, UnknownName, UnknownPackage, AmbiguousName, Limit, Differs, NotInManifest, WrongJulia, NotBuilt, Memory, SinkFault}
-use Rattle.check_command.specs.CheckDue.{Judged, judged_by, states_told, if_few, with_book, with_demand, with_selection, told_book, IsRaise, IsGood, IsBroken, IsJudgement, IsAnswerOn}
+use Rattle.check_command.specs.CheckDue.{Judged, judged_by, states_told, with_book, with_demand, with_selection, told_book, IsRaise, IsJudgement, IsAnswerOn}
 use Rattle.check_command.specs.Answered.{RefusesBy, AnswersBy, AnswersOn}
 
 pub refuses_as : (One Other : Result (List ℕ) Status → Type 0) → ((answer : Result (List ℕ) Status) → One answer → Other answer) → (status : Status) → RefusesBy One status → RefusesBy Other status

@@ -1,15 +1,15 @@
 -- A fault of the catalog or of gathering is told as the phase refuses.
-use Rattle.std.proofs.Common.{◌≡◌, ℕ, List, Option, Some, None, IfSome, Result, Ok, Err, refl, sym, ap, ◌∙◌, subst}
+use Rattle.std.proofs.Common.{◌≡◌, ℕ, List, Option, Some, None, IfSome, Result, Err, refl, sym, ap, ◌∙◌, subst}
 use Rattle.pkg_world.specs.Each.{then_ok}
 use Rattle.pkg_world.specs.Tree.{Files}
 use Rattle.pkg_world.specs.declared.cause.LimitKind.{LimitKind}
 use Rattle.pkg_world.specs.declared.cause.LimitKind.TheVariants.{Packages}
-use Rattle.registry_tables.specs.Answers.{Read, missing, bad}
+use Rattle.registry_tables.specs.Answers.{Read}
 use Rattle.offer_terms.specs.Booked.{Packed}
 use Rattle.offer_catalog.specs.Answers.{Refuses as CatalogRefuses, ReadFaultRose as CatalogRose}
 use Rattle.offer_catalog.specs.declared.fault.BookFault.{BookFault}
 use Rattle.offer_catalog.specs.declared.fault.BookFault.TheVariants.{ReadFault, MissingFile, BadFile, UnknownPackage, Limit, Memory}
-use Rattle.offer_book.specs.Gathered.{BookRefusal, unusable, unknown, too_many, Refuses as BookRefuses}
+use Rattle.offer_book.specs.Gathered.{BookRefusal, Refuses as BookRefuses}
 use Rattle.command_answers.specs.Answers.{ReadFaultRose, IsLate, IsUnprinted}
 use Rattle.command_answers.specs.declared.status.Status.{Status}
 use Rattle.command_answers.specs.declared.status.Status.TheVariants as status

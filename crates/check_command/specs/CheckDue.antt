@@ -4,7 +4,7 @@
 -- The refusals come in this order: the project file and then the manifest, which must both be there; the files of the catalog;
 -- Julia's version, and then what is to be fetched; the tables of the packages that are reached from the roots and from what
 -- the manifest selects, roots without a source, and too many packages; too many states. Then the verdict, where it isn't good.
-use Rattle.std.specs.Prelude.{◌≡◌, ℕ, ◌+◌, ◌-◌, ◌^◌, Bool, nat_lt, min, if◌then◌else◌, List, length, slice_get, Option, Some, None, option_map, Result, Ok, Err}
+use Rattle.std.specs.Prelude.{◌≡◌, ℕ, ◌+◌, ◌-◌, ◌^◌, nat_lt, min, if◌then◌else◌, List, length, slice_get, Option, Some, None, option_map, Result, Ok, Err}
 use Rattle.std.specs.List.{sum_by}
 use Rattle.std.specs.Map.{keys_of}
 use Rattle.jl_versions.specs.declared.version.Version.{Version}
