@@ -53,7 +53,7 @@ IsDue files place words answer = IsDueAfter files place (early_due words) (asked
 
 -- what is printed at Ok is the text that is due; at SinkFault a prefix of it; else nothing
 abbrev pub PrintsBy : (Result (List ℕ) Status → Type 0) → Option (List ℕ) → Option (List ℕ) → Status → Type 0
-PrintsBy IsDue old new StatusOk = (line : List ℕ) × (IsDue (Ok line)) × (new ≡ option_map (λ text. text ++ line) old)
-PrintsBy IsDue old new SinkFault = (line : List ℕ) × (kept : ℕ) × (IsDue (Ok line)) × (new ≡ option_map (λ text. text ++ take kept line) old)
-PrintsBy IsDue old new Memory = new ≡ old
-PrintsBy IsDue old new status = (new ≡ old) × RefusesBy IsDue status
+PrintsBy IsIt old new StatusOk = (line : List ℕ) × (IsIt (Ok line)) × (new ≡ option_map (λ text. text ++ line) old)
+PrintsBy IsIt old new SinkFault = (line : List ℕ) × (kept : ℕ) × (IsIt (Ok line)) × (new ≡ option_map (λ text. text ++ take kept line) old)
+PrintsBy IsIt old new Memory = new ≡ old
+PrintsBy IsIt old new refusal = (new ≡ old) × RefusesBy IsIt refusal
