@@ -56,8 +56,9 @@ def main():
         page = file.read()
     before, rest = page.split(BEGIN, 1)
     after = rest.split(END, 1)[1]
+    drawn = before + BEGIN + picture(crates()) + END + after
     with open(PAGE, "w", encoding="utf-8") as file:
-        file.write(before + BEGIN + picture(crates()) + END + after)
+        file.write(drawn)
 
 
 if __name__ == "__main__":

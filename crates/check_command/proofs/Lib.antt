@@ -1,4 +1,4 @@
 mod StateLemmas
 mod JudgeLemmas
-pub mod LiftLemmas
+mod LiftLemmas
 mod RefusalLemmas

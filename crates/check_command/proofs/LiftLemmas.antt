@@ -21,7 +21,7 @@ use Rattle.command_answers.specs.declared.status.Status.TheVariants.{Ok as Statu
 use Rattle.check_command.specs.CheckDue.{Judged, judged_by, states_told, with_book, with_demand, with_selection, told_book, IsRaise, IsJudgement, IsAnswerOn}
 use Rattle.check_command.specs.Answered.{RefusesBy, AnswersBy, AnswersOn}
 
-pub refuses_as : (One Other : Result (List ℕ) Status → Type 0) → ((answer : Result (List ℕ) Status) → One answer → Other answer) → (status : Status) → RefusesBy One status → RefusesBy Other status
+refuses_as : (One Other : Result (List ℕ) Status → Type 0) → ((answer : Result (List ℕ) Status) → One answer → Other answer) → (status : Status) → RefusesBy One status → RefusesBy Other status
 refuses_as One Other is StatusOk h = h
 refuses_as One Other is (BadWords word) h = is (Err (BadWords word)) h
 refuses_as One Other is (MissingFile path) h = is (Err (MissingFile path)) h
@@ -42,7 +42,7 @@ refuses_as One Other is Memory h = tt
 refuses_as One Other is SinkFault h = h
 
 -- an answer that is due by one relation is due by another
-pub answers_as : (One Other : Result (List ℕ) Status → Type 0) → ((answer : Result (List ℕ) Status) → One answer → Other answer) → (answer : Result (String Global) Status)
+answers_as : (One Other : Result (List ℕ) Status → Type 0) → ((answer : Result (List ℕ) Status) → One answer → Other answer) → (answer : Result (String Global) Status)
     → AnswersBy One answer → AnswersBy Other answer
 answers_as One Other is (Ok text) h = is (Ok (string_bytes text)) h
 answers_as One Other is (Err status) h = refuses_as One Other is status h

@@ -1,2 +1,1 @@
 pub mod Depots
-mod DueLemmas
