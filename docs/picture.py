@@ -13,10 +13,10 @@ LAYERS = {
     "The outside": "pkg_world",
     "Texts and values": "jl_versions compat_spec toml_view package_tables depot_hash",
     "Files": "project_file manifest_file registry_tables registered_offers",
-    "Environments": "project_places env_maps import_lookup",
-    "What is chosen among": "standard_libraries fixed_packages offer_terms package_offers offer_catalog offer_book selection_check",
-    "The resolver's core": "bit_rows lex_weights version_graph graph_pruning refutation_log maxsum_messages decimation_repair raise_pass instance_search",
-    "The command": "command_answers command_words offers_command home_commands pkg_top",
+    "Environments": "project_places home_files env_maps import_lookup",
+    "What is chosen among": "standard_libraries fixed_packages offer_terms package_offers offer_catalog offer_book selection_check pkg_commands manifest_writing",
+    "The resolver's core": "bit_rows lex_weights version_graph graph_pruning refutation_log maxsum_messages decimation_repair raise_pass instance_search book_graph resolve_core",
+    "The command": "command_answers command_words offers_command home_commands check_command pkg_top",
     "The edge": "read_once jlpkg",
     "Cases and tests": "worked_cases text_tests file_tests store_tests depot_tests graph_tests offer_tests selection_tests",
 }
@@ -56,8 +56,9 @@ def main():
         page = file.read()
     before, rest = page.split(BEGIN, 1)
     after = rest.split(END, 1)[1]
+    drawn = before + BEGIN + picture(crates()) + END + after
     with open(PAGE, "w", encoding="utf-8") as file:
-        file.write(before + BEGIN + picture(crates()) + END + after)
+        file.write(drawn)
 
 
 if __name__ == "__main__":

@@ -8,10 +8,12 @@ use Rattle.pkg_world.specs.declared.cause.Cause.{Cause}
 use Rattle.pkg_world.specs.declared.cause.Cause.TheVariants.{BadToml, Deep, BadShape, BadVersion, BadSpec, Clash, SameUuid, Dangling, Unclear}
 use Rattle.pkg_world.specs.declared.cause.LimitKind.{LimitKind}
 use Rattle.pkg_world.specs.declared.cause.LimitKind.TheVariants.{Packages, States, Bits, Cells, TreeDepth, TreeFiles}
+use Rattle.selection_check.specs.declared.verdict.Verdict.{Verdict}
+use Rattle.selection_check.specs.declared.verdict.Verdict.TheVariants.{Good, MissingRoot, NoOffer, MissingDep, Outside, PinBroken, Unneeded}
 use Rattle.command_answers.specs.declared.status.Difference.{Difference}
-use Rattle.command_answers.specs.declared.status.Difference.TheVariants.{Trees}
+use Rattle.command_answers.specs.declared.status.Difference.TheVariants.{Broken, Trees}
 use Rattle.command_answers.specs.declared.status.Status.{Status}
-use Rattle.command_answers.specs.declared.status.Status.TheVariants.{Ok as StatusOk, BadWords, MissingFile, BadFile, NoIdentity, NoSource, ReadFault, UnknownName, AmbiguousName, Limit, Differs, NotInManifest, NotBuilt, Memory, SinkFault}
+use Rattle.command_answers.specs.declared.status.Status.TheVariants.{Ok as StatusOk, BadWords, MissingFile, BadFile, NeedsFetch, NoIdentity, NoSource, ReadFault, UnknownName, UnknownPackage, AmbiguousName, Limit, Differs, NotInManifest, WrongJulia, NotBuilt, Memory, SinkFault}
 
 -- an identifier in lower case with hyphens, nil as `-`
 abbrev pub uuid_text : Option (List ℕ) → List ℕ
@@ -42,7 +44,18 @@ limit_text Cells = codes "Cells"
 limit_text TreeDepth = codes "TreeDepth"
 limit_text TreeFiles = codes "TreeFiles"
 
+-- a verdict as its name and the identifiers that it names, the project as `-`
+abbrev pub verdict_text : Verdict → List ℕ
+verdict_text Good = codes "Good"
+verdict_text (MissingRoot uuid) = two (codes "MissingRoot") (hyphenated_text lower uuid)
+verdict_text (NoOffer uuid) = two (codes "NoOffer") (hyphenated_text lower uuid)
+verdict_text (MissingDep uuid missing) = two (codes "MissingDep") (two (hyphenated_text lower uuid) (hyphenated_text lower missing))
+verdict_text (Outside uuid outside) = two (codes "Outside") (two (uuid_text uuid) (hyphenated_text lower outside))
+verdict_text (PinBroken uuid) = two (codes "PinBroken") (hyphenated_text lower uuid)
+verdict_text (Unneeded uuid) = two (codes "Unneeded") (hyphenated_text lower uuid)
+
 abbrev pub difference_text : Difference → List ℕ
+difference_text (Broken verdict) = verdict_text verdict
 difference_text (Trees wanted found) = two (tree_text wanted) (tree_text found)
 
 -- `error`, the code and the name of a status, and what it carries
@@ -55,14 +68,17 @@ status_line StatusOk = []
 status_line (BadWords word) = error_line (codes "2 BadWords") word
 status_line (MissingFile path) = error_line (codes "3 MissingFile") (path_text path)
 status_line (BadFile path cause) = error_line (codes "3 BadFile") (two (path_text path) (cause_text cause))
+status_line (NeedsFetch name) = error_line (codes "3 NeedsFetch") name
 status_line (NoIdentity name) = error_line (codes "4 NoIdentity") name
 status_line (NoSource uuid) = error_line (codes "5 NoSource") (uuid_text uuid)
 status_line (ReadFault path) = error_line (codes "8 ReadFault") (path_text path)
 status_line (UnknownName name) = error_line (codes "10 UnknownName") name
+status_line (UnknownPackage uuid) = error_line (codes "10 UnknownPackage") (hyphenated_text lower uuid)
 status_line (AmbiguousName first second) = error_line (codes "11 AmbiguousName") (two (hyphenated_text lower first) (hyphenated_text lower second))
 status_line (Limit kind count) = error_line (codes "12 Limit") (two (limit_text kind) (decimal count))
 status_line (Differs difference) = error_line (codes "13 Differs") (difference_text difference)
 status_line (NotInManifest name) = error_line (codes "14 NotInManifest") name
+status_line (WrongJulia text) = error_line (codes "14 WrongJulia") text
 status_line (NotBuilt word) = error_line (codes "17 NotBuilt") word
 status_line Memory = codes "error 15 Memory" ++ 10 ∷ []
 status_line SinkFault = codes "error 16 SinkFault" ++ 10 ∷ []
@@ -73,14 +89,17 @@ code_of StatusOk = 0
 code_of (BadWords word) = 2
 code_of (MissingFile path) = 3
 code_of (BadFile path cause) = 3
+code_of (NeedsFetch name) = 3
 code_of (NoIdentity name) = 4
 code_of (NoSource uuid) = 5
 code_of (ReadFault path) = 8
 code_of (UnknownName name) = 10
+code_of (UnknownPackage uuid) = 10
 code_of (AmbiguousName first second) = 11
 code_of (Limit kind count) = 12
 code_of (Differs difference) = 13
 code_of (NotInManifest name) = 14
+code_of (WrongJulia text) = 14
 code_of Memory = 15
 code_of SinkFault = 16
 code_of (NotBuilt word) = 17

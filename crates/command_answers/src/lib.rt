@@ -3,6 +3,7 @@
 
 mod cause_line;
 mod status;
+mod verdict_line;
 
 pub use cause_line::plain_uuid;
 pub use status::{Difference, Ended, Status, Told, status_line, uuid_text};

@@ -3,10 +3,12 @@ ghost use Rattle.std.specs.Prelude.{◌≡◌, ◌++◌, ◌∷◌, [], Some, co
 ghost use Rattle.std.specs.Fmt.{decimal};
 ghost use Rattle.pkg_world.specs.Path.{path_text};
 ghost use Rattle.pkg_world.specs.TreeIds.{tree_text};
-ghost use Rattle.command_answers.specs.Lines.{code_of, status_line as line_of, error_line as line_with, cause_text as text_of_cause, uuid_text as text_of_uuid, limit_text as text_of_limit, difference_text as text_of_difference, two};
+ghost use Rattle.command_answers.specs.Lines.{code_of, status_line as line_of, error_line as line_with, cause_text as text_of_cause, uuid_text as text_of_uuid, limit_text as text_of_limit, difference_text as text_of_difference, verdict_text as text_of_verdict, two};
 
 use crate::cause_line::{cause_text, number_text, plain_uuid, two_words};
+use crate::verdict_line::verdict_text;
 use pkg_world::{Cause, LimitKind, Name, NormPath, Text, TreeId};
+use selection_check::Verdict;
 use std::alloc::{AllocError, Global};
 use uuid::Uuid;
 
@@ -31,6 +33,8 @@ pub enum Told {
 /// What is not the same.
 #[derive(Debug, Drop)]
 pub enum Difference {
+    /// The clause that what a manifest says breaks.
+    Broken(Verdict),
     /// The tree that a stanza names, and that of the installed folder.
     Trees(TreeId, TreeId),
 }
@@ -46,6 +50,8 @@ pub enum Status {
     MissingFile(NormPath),
     /// The bytes of this file are refused.
     BadFile(NormPath, Cause),
+    /// The source of this dependency is an address, and no stanza of the manifest has fetched it.
+    NeedsFetch(Name),
     /// No package has this name here.
     NoIdentity(Name),
     /// The package of this identifier has no entry file.
@@ -54,6 +60,8 @@ pub enum Status {
     ReadFault(NormPath),
     /// No registry lists this name.
     UnknownName(Name),
+    /// Nothing offers the package of this identifier.
+    UnknownPackage(Uuid),
     /// A name that two packages have, with their identifiers, the lesser first.
     AmbiguousName(Uuid, Uuid),
     /// A count passes this limit.
@@ -62,6 +70,8 @@ pub enum Status {
     Differs(Difference),
     /// No stanza of the manifest has this name.
     NotInManifest(Name),
+    /// The project's compat on Julia, of this text, does not hold Julia's version.
+    WrongJulia(Text),
     /// This version does not have that yet.
     NotBuilt(Text),
     /// There was no memory.
@@ -80,14 +90,17 @@ impl Status {
             Status::BadWords(_) => 2,
             Status::MissingFile(_) => 3,
             Status::BadFile(..) => 3,
+            Status::NeedsFetch(_) => 3,
             Status::NoIdentity(_) => 4,
             Status::NoSource(_) => 5,
             Status::ReadFault(_) => 8,
             Status::UnknownName(_) => 10,
+            Status::UnknownPackage(_) => 10,
             Status::AmbiguousName(..) => 11,
             Status::Limit(..) => 12,
             Status::Differs(_) => 13,
             Status::NotInManifest(_) => 14,
+            Status::WrongJulia(_) => 14,
             Status::Memory => 15,
             Status::SinkFault => 16,
             Status::NotBuilt(_) => 17,
@@ -115,14 +128,17 @@ pub fn status_line(alloc: Global, status: &Status) -> Result<String, AllocError>
         Status::BadWords(word) => error_line(alloc, "2 BadWords", word.as_str()),
         Status::MissingFile(path) => error_line(alloc, "3 MissingFile", path.as_str()),
         Status::BadFile(path, cause) => bad_file_line(alloc, path, cause),
+        Status::NeedsFetch(name) => error_line(alloc, "3 NeedsFetch", name.as_str()),
         Status::NoIdentity(name) => error_line(alloc, "4 NoIdentity", name.as_str()),
         Status::NoSource(uuid) => no_source_line(alloc, uuid),
         Status::ReadFault(path) => error_line(alloc, "8 ReadFault", path.as_str()),
         Status::UnknownName(name) => error_line(alloc, "10 UnknownName", name.as_str()),
+        Status::UnknownPackage(uuid) => unknown_package_line(alloc, uuid),
         Status::AmbiguousName(first, second) => ambiguous_line(alloc, first, second),
         Status::Limit(kind, count) => limit_line(alloc, kind, *count),
         Status::Differs(difference) => differs_line(alloc, difference),
         Status::NotInManifest(name) => error_line(alloc, "14 NotInManifest", name.as_str()),
+        Status::WrongJulia(text) => error_line(alloc, "14 WrongJulia", text.as_str()),
         Status::NotBuilt(word) => error_line(alloc, "17 NotBuilt", word.as_str()),
         Status::Memory => String::from_str(alloc, "error 15 Memory\n"),
         Status::SinkFault => String::from_str(alloc, "error 16 SinkFault\n"),
@@ -148,6 +164,13 @@ fn two_carried(alloc: Global, head: &str, first: &str, second: &str) -> Result<S
 {
     let carried = two_words(alloc, first, second)?;
     error_line(alloc, head, carried.as_str())
+}
+
+fn unknown_package_line(alloc: Global, uuid: &Uuid) -> Result<String, AllocError>
+    ensures { IfOk result (λ line. string_bytes line ≡ line_with (codes "10 UnknownPackage") (text_of_uuid (Some uuid.now))) }
+{
+    let uuid = plain_uuid(alloc, uuid)?;
+    error_line(alloc, "10 UnknownPackage", uuid.as_str())
 }
 
 fn ambiguous_line(alloc: Global, first: &Uuid, second: &Uuid) -> Result<String, AllocError>
@@ -182,8 +205,16 @@ fn differs_line(alloc: Global, difference: &Difference) -> Result<String, AllocE
     ensures { IfOk result (λ line. string_bytes line ≡ line_with (codes "13 Differs") (text_of_difference difference.now)) }
 {
     match difference {
+        Difference::Broken(verdict) => broken_line(alloc, verdict),
         Difference::Trees(wanted, found) => trees_line(alloc, wanted, found),
     }
+}
+
+fn broken_line(alloc: Global, verdict: &Verdict) -> Result<String, AllocError>
+    ensures { IfOk result (λ line. string_bytes line ≡ line_with (codes "13 Differs") (text_of_verdict verdict.now)) }
+{
+    let verdict = verdict_text(alloc, verdict)?;
+    error_line(alloc, "13 Differs", verdict.as_str())
 }
 
 fn trees_line(alloc: Global, wanted: &TreeId, found: &TreeId) -> Result<String, AllocError>

@@ -20,6 +20,7 @@ pub data Asked : Type 0 where
   status : Bool → Asked
   -- `verify` of a name, with a list of paths where one is given
   verify : Word → Option Word → Asked
+  check : Asked
   -- words that break the rules, with the command word that is told
   refused_words : Word → Asked
   -- a command or an option that this version does not have yet
@@ -55,6 +56,11 @@ abbrev pub one_flag : List Piece → Option Bool
 one_flag [] = Some false
 one_flag (piece ∷ []) = flag_of piece
 one_flag (piece ∷ next ∷ more) = None
+
+-- nothing
+abbrev pub no_pieces : List Piece → Option Asked
+no_pieces [] = Some check
+no_pieces (piece ∷ more) = None
 
 -- a name with the value of the command's option
 abbrev pub name_with : Piece → Piece → Option NameAndValue
@@ -99,6 +105,7 @@ built_words command rest =
     else if bytes_eq command (codes "offers") then option_map offers (option_and_then one_name (pieces None None false rest))
     else if bytes_eq command (codes "status") then option_map status (option_and_then one_flag (pieces None (Some (codes "--all")) false rest))
     else if bytes_eq command (codes "verify") then option_map verify_of (option_and_then name_and_value (pieces (Some (codes "--exec")) None false rest))
+    else if bytes_eq command (codes "check") then option_and_then no_pieces (pieces None None false rest)
     else None
 
 -- the option itself, or it with a value behind `=`
@@ -110,6 +117,7 @@ abbrev pub unbuilt_option : Word → Word → Option Word
 unbuilt_option command word =
     if bytes_eq command (codes "which") && is_option (codes "--ext") word then Some (codes "--ext")
     else if bytes_eq command (codes "status") && is_option (codes "--extensions") word then Some (codes "--extensions")
+    else if bytes_eq command (codes "check") && is_option (codes "--proof") word then Some (codes "--proof")
     else None
 
 abbrev pub or_next : Option Word → Option Word → Option Word
@@ -122,7 +130,7 @@ first_unbuilt command (word ∷ more) = or_next (unbuilt_option command word) (f
 
 -- the commands that later versions have
 abbrev pub later_commands : List Word
-later_commands = codes "resolve" ∷ codes "check" ∷ codes "add" ∷ codes "rm" ∷ codes "pin" ∷ codes "free" ∷ codes "develop" ∷ codes "make" ∷ []
+later_commands = codes "resolve" ∷ codes "add" ∷ codes "rm" ∷ codes "pin" ∷ codes "free" ∷ codes "develop" ∷ codes "make" ∷ []
 
 abbrev pub or_refused : Word → Option Asked → Asked
 or_refused command (Some asked) = asked

@@ -25,6 +25,8 @@ pub enum Asked {
     Status(bool),
     /// `verify` of a name, with a list of paths where one is given.
     Verify(Name, Option<Text>),
+    /// `check`.
+    Check,
     /// The words break the rules: the command word, or `-` where there is none.
     BadWords(Text),
     /// A command or an option that this version does not have yet.
@@ -78,7 +80,6 @@ fn is_later_command(command: &str) -> bool
     ensures { result ≡ list_any (λ later. bytes_eq command.now later) spec.later_commands }
 {
     command == "resolve"
-        || command == "check"
         || command == "add"
         || command == "rm"
         || command == "pin"
@@ -106,6 +107,8 @@ fn unbuilt_option(command: &str, word: &str) -> Option<&'static str>
         Some("--ext")
     } else if command == "status" && is_extensions(word) {
         Some("--extensions")
+    } else if command == "check" && is_proof(word) {
+        Some("--proof")
     } else {
         None
     }
@@ -123,6 +126,12 @@ fn is_extensions(word: &str) -> bool
     word == "--extensions" || word.as_bytes().starts_with(b"--extensions=")
 }
 
+fn is_proof(word: &str) -> bool
+    ensures { result ≡ spec.is_option (codes "--proof") word.now }
+{
+    word == "--proof" || word.as_bytes().starts_with(b"--proof=")
+}
+
 /// What a built command is asked; None where its words break the rules, or the command is no built one.
 fn built_words(alloc: Global, command: &str, rest: &[String]) -> Result<Option<Asked>, AllocError>
     ensures { IfOk result (λ asked. option_map asked_of asked ≡ spec.built_words command.now (texts rest.now)) }
@@ -138,6 +147,9 @@ fn built_words(alloc: Global, command: &str, rest: &[String]) -> Result<Option<A
     }
     if command == "verify" {
         return verify_words(alloc, rest);
+    }
+    if command == "check" {
+        return check_words(alloc, rest);
     }
     Ok(None)
 }
@@ -215,6 +227,15 @@ fn offers_words(alloc: Global, rest: &[String]) -> Result<Option<Asked>, AllocEr
     }
 }
 
+fn check_words(alloc: Global, rest: &[String]) -> Result<Option<Asked>, AllocError>
+    ensures { IfOk result (λ asked. option_map asked_of asked ≡ spec.built_words (codes "check") (texts rest.now)) }
+{
+    match read_pieces(alloc, None, None, rest)? {
+        Some(found) => Ok(check_asked(found.as_slice())),
+        None => Ok(None),
+    }
+}
+
 fn status_words(alloc: Global, rest: &[String]) -> Result<Option<Asked>, AllocError>
     ensures { IfOk result (λ asked. option_map asked_of asked ≡ spec.built_words (codes "status") (texts rest.now)) }
 {
@@ -276,6 +297,16 @@ fn status_asked(found: &[Piece]) -> Option<Asked>
     match found {
         [] => Some(Asked::Status(false)),
         [Piece::Flag] => Some(Asked::Status(true)),
+        _ => None,
+    }
+}
+
+/// Nothing.
+fn check_asked(found: &[Piece]) -> Option<Asked>
+    ensures { option_map asked_of result ≡ spec.no_pieces found.now }
+{
+    match found {
+        [] => Some(Asked::Check),
         _ => None,
     }
 }

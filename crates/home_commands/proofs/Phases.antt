@@ -1,7 +1,7 @@
 -- A refusal of a first phase is that of the whole answer.
 use Rattle.std.proofs.Common.{Option, Some, None, IfSome, Result, ap}
 use Rattle.command_answers.specs.declared.status.Status.{Status}
-use Rattle.command_answers.specs.declared.status.Status.TheVariants.{Ok as StatusOk, BadWords, MissingFile, BadFile, NoIdentity, NoSource, ReadFault, UnknownName, AmbiguousName, Limit, Differs, NotInManifest, NotBuilt, Memory, SinkFault}
+use Rattle.command_answers.specs.declared.status.Status.TheVariants.{Ok as StatusOk, BadWords, MissingFile, BadFile, NeedsFetch, NoIdentity, NoSource, ReadFault, UnknownName, UnknownPackage, AmbiguousName, Limit, Differs, NotInManifest, WrongJulia, NotBuilt, Memory, SinkFault}
 use Rattle.command_answers.specs.Answers.{Refuses}
 use Rattle.pkg_world.specs.Each.{then_ok}
 
@@ -10,14 +10,17 @@ refused_then phase next StatusOk h = h
 refused_then phase next (BadWords word) h = ap (λ r. then_ok r next) h
 refused_then phase next (MissingFile path) h = ap (λ r. then_ok r next) h
 refused_then phase next (BadFile path cause) h = ap (λ r. then_ok r next) h
+refused_then phase next (NeedsFetch name) h = ap (λ r. then_ok r next) h
 refused_then phase next (NoIdentity name) h = ap (λ r. then_ok r next) h
 refused_then phase next (NoSource uuid) h = ap (λ r. then_ok r next) h
 refused_then phase next (ReadFault path) h = tt
 refused_then phase next (UnknownName name) h = ap (λ r. then_ok r next) h
+refused_then phase next (UnknownPackage uuid) h = ap (λ r. then_ok r next) h
 refused_then phase next (AmbiguousName first second) h = ap (λ r. then_ok r next) h
 refused_then phase next (Limit kind count) h = ap (λ r. then_ok r next) h
 refused_then phase next (Differs difference) h = ap (λ r. then_ok r next) h
 refused_then phase next (NotInManifest name) h = ap (λ r. then_ok r next) h
+refused_then phase next (WrongJulia text) h = ap (λ r. then_ok r next) h
 refused_then phase next (NotBuilt word) h = ap (λ r. then_ok r next) h
 refused_then phase next Memory h = tt
 refused_then phase next SinkFault h = h

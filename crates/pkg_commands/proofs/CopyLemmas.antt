@@ -1,7 +1,7 @@
 -- Copies of fixed packages have the identifiers of the packages.
 use Rattle.std.proofs.Common.{◌≡◌, List, [], ◌∷◌, ◌++◌, map, refl, sym, ap, ◌∙◌, subst, append-nil}
 use Rattle.offer_terms.specs.ById.{AreRising}
-use Rattle.offer_terms.specs.Demanded.{FixedSaid, fixed_said}
+use Rattle.offer_terms.specs.Demanded.{fixed_said}
 use Rattle.offer_terms.specs.declared.fixed.Fixed.{Fixed}
 
 ids-said : (items : List Fixed) → map (λ it. it.uuid) (map fixed_said items) ≡ map (λ it. it.uuid) items

@@ -1,6 +1,6 @@
 -- What a project demands of a selection (Pkg, Project.toml and Compatibility; pins and fixed packages are own rules).
 --     demand_of catalog place project manifest     its roots, its compat, the pins, the fixed packages and Julia's version
-use Rattle.std.specs.Prelude.{ℕ, ◌++◌, List, [], codes, filter, Option, None, option_map, if◌then◌else◌}
+use Rattle.std.specs.Prelude.{◌++◌, List, [], codes, filter, Option, None, option_map, if◌then◌else◌}
 use Rattle.std.specs.List.{filter_map}
 use Rattle.std.specs.Str.{bytes_eq}
 use Rattle.compat_spec.specs.declared.part.Part.{Part}

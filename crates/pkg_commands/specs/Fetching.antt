@@ -1,7 +1,7 @@
 -- Which dependency of a project is to be fetched: one whose source is an address, where no stanza of its identifier comes from
 -- a repository at this address, with the same revision and folder where they are given. (Own rule.)
 --     unfetched sources deps stanzas     the first such dependency, in the order of the names
-use Rattle.std.specs.Prelude.{ℕ, Bool, true, false, not, ◌&&◌, List, find, Option, Some, None}
+use Rattle.std.specs.Prelude.{Bool, true, false, not, ◌&&◌, List, find, Option, Some, None}
 use Rattle.std.specs.List.{list_any}
 use Rattle.std.specs.Str.{bytes_eq}
 use Rattle.package_tables.specs.Row.{value_of}

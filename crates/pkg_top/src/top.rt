@@ -1,12 +1,14 @@
 //! The top call.
 ghost use Rattle.std.specs.Prelude.{◌≡◌, ◌≤◌, IfSome, IfErr, string_bytes};
-ghost use Rattle.pkg_top.specs.Due.{due as answer_due, early_due};
+ghost use Rattle.pkg_top.specs.Due.{IsDue, PrintsBy, early_due};
+ghost use Rattle.check_command.specs.Answered.{AnswersBy};
 ghost use Rattle.command_answers.specs.Lines.{status_line as line_of};
 ghost use Rattle.command_words.specs.Seen.{texts};
-ghost use Rattle.command_answers.specs.Answers.{Answers, AnswersTimely, IsTimely, ReadFaultRose, SinkFaultRose, Prints, PrintsOnlyAtOk, IsPrinted, IsRefusal, IsUnprinted, Tells, TellsLine};
+ghost use Rattle.command_answers.specs.Answers.{AnswersTimely, IsTimely, ReadFaultRose, SinkFaultRose, PrintsOnlyAtOk, IsPrinted, IsRefusal, IsUnprinted, Tells, TellsLine};
 
 use crate::early::asked_for;
 use crate::which::which;
+use check_command::check;
 use command_answers::{Ended, Status, Told, status_line};
 use command_words::Asked;
 use home_commands::{status_lines, verify};
@@ -19,8 +21,9 @@ use std::alloc::Global;
 ///
 /// Where the store tells its files, status and text are those that the definitions give for them, by the command: `which`
 /// answers the import of a name from a context over the environments of the load path (Julia manual, Code Loading), `status` tells
-/// the stanzas of its dependencies, `offers` the versions that registries list under a name, and `verify` whether an
-/// installed tree is the manifest's (Git's object format). No file is replaced.
+/// the stanzas of its dependencies, `offers` the versions that registries list under a name, `verify` whether an
+/// installed tree is the manifest's (Git's object format), and `check` whether what the manifest says is valid for the offers of
+/// the files and the project's demand, and what could be raised (Pkg, Compatibility). No file is replaced.
 /// ReadFault and SinkFault come only where the store's and the sink's counts of faults rose, and want of memory is free.
 pub fn run<S: Store, O: Sink, E: Sink>(
     alloc: Global,
@@ -30,7 +33,7 @@ pub fn run<S: Store, O: Sink, E: Sink>(
     out: &mut O,
     err: &mut E,
 ) -> Ended
-    ensures due { IfSome (S.files store.old) (λ all. Prints (answer_due all place.now (texts words.now)) (O.text out.old) (O.text out.new) result.status) }
+    ensures due { IfSome (S.files store.old) (λ all. PrintsBy (IsDue all place.now (texts words.now)) (O.text out.old) (O.text out.new) result.status) }
     ensures timely { IsTimely (early_due (texts words.now)) result.status }
     ensures quiet { PrintsOnlyAtOk (O.text out.old) (O.text out.new) result.status }
     ensures told { Tells (E.text err.old) (E.text err.new) (E.faults err.old) (E.faults err.new) result.status result.told }
@@ -55,7 +58,7 @@ fn answer<S: Store>(
     place: &Place,
     store: &mut S,
 ) -> Result<String, Status>
-    ensures answer { IfSome (S.files store.old) (λ all. Answers (answer_due all place.now (texts words.now)) result) }
+    ensures answer { IfSome (S.files store.old) (λ all. AnswersBy (IsDue all place.now (texts words.now)) result) }
     ensures timely { AnswersTimely (early_due (texts words.now)) result }
     ensures fault { IfErr result (ReadFaultRose (S.read_faults store.old) (S.read_faults store.new)) }
     ensures unprinted { IfErr result IsUnprinted }
@@ -68,6 +71,7 @@ fn answer<S: Store>(
         Ok(Asked::Offers(name)) => offers(alloc, &name, place, store),
         Ok(Asked::Status(all)) => status_lines(alloc, all, place, store),
         Ok(Asked::Verify(name, list)) => verify(alloc, &name, &list, place, store),
+        Ok(Asked::Check) => check(alloc, place, store),
         Ok(Asked::BadWords(_)) => unreachable!(),
         Ok(Asked::NotBuilt(_)) => unreachable!(),
         Err(status) => Err(status),

@@ -1,4 +1,4 @@
-use Rattle.std.proofs.Common.{◌≡◌, [], drop, arith, map, subst}
+use Rattle.std.proofs.Common.{◌≡◌, [], drop, arith, map}
 use Rattle.std.proofs.lemmas.Grind.{common_steps}
 use Rattle.offer_terms.specs.ById.{AreRising}
 use Rattle.pkg_commands.proofs.CopyLemmas.{copies-rise}

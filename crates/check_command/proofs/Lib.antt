@@ -1,0 +1,4 @@
+mod StateLemmas
+mod JudgeLemmas
+mod LiftLemmas
+mod RefusalLemmas

@@ -1,0 +1,106 @@
+-- What a book's offers say of a selection, the offers of all packages say.
+use Rattle.std.proofs.Common.{◌≡◌, ℕ, Bool, true, false, cond, List, Option, Some, None, IfSome, Result, Ok, Err, String, string_bytes, nat_lt, sym, subst}
+use Rattle.std.specs.declared.alloc.Global.{Global}
+use Rattle.std.specs.Map.{keys_of}
+use Rattle.jl_versions.specs.declared.version.Version.{Version}
+use Rattle.pkg_world.specs.Each.{then_ok}
+use Rattle.pkg_world.specs.Tree.{Files}
+use Rattle.offer_terms.specs.Offered.{Id, Selected}
+use Rattle.offer_terms.specs.Booked.{Packed, book_offers}
+use Rattle.offer_terms.specs.Demanded.{Wanted}
+use Rattle.offer_terms.specs.Feasible.{IsValid}
+use Rattle.offer_catalog.specs.SaidCatalog.{SaidCatalog}
+use Rattle.offer_book.specs.Scope.{scope}
+use Rattle.offer_book.specs.AllOffers.{all_offers}
+use Rattle.offer_book.specs.Gathered.{gathered}
+use Rattle.offer_book.specs.Laws.{ValidAlike, RaisedAlike}
+use Rattle.pkg_world.specs.declared.cause.LimitKind.TheVariants.{States}
+use Rattle.pkg_commands.specs.Edit.{Edited, EditRefusal}
+use Rattle.command_answers.specs.declared.status.Status.{Status}
+use Rattle.command_answers.specs.declared.status.Status.TheVariants.{Ok as StatusOk, BadWords, MissingFile, BadFile, NeedsFetch, NoIdentity, NoSource, ReadFault, UnknownName, UnknownPackage, AmbiguousName, Limit, Differs, NotInManifest, WrongJulia, NotBuilt, Memory, SinkFault}
+use Rattle.check_command.specs.CheckDue.{Judged, judged_by, states_told, with_book, with_demand, with_selection, told_book, IsRaise, IsJudgement, IsAnswerOn}
+use Rattle.check_command.specs.Answered.{RefusesBy, AnswersBy, AnswersOn}
+
+refuses_as : (One Other : Result (List ℕ) Status → Type 0) → ((answer : Result (List ℕ) Status) → One answer → Other answer) → (status : Status) → RefusesBy One status → RefusesBy Other status
+refuses_as One Other is StatusOk h = h
+refuses_as One Other is (BadWords word) h = is (Err (BadWords word)) h
+refuses_as One Other is (MissingFile path) h = is (Err (MissingFile path)) h
+refuses_as One Other is (BadFile path cause) h = is (Err (BadFile path cause)) h
+refuses_as One Other is (NeedsFetch name) h = is (Err (NeedsFetch name)) h
+refuses_as One Other is (NoIdentity name) h = is (Err (NoIdentity name)) h
+refuses_as One Other is (NoSource uuid) h = is (Err (NoSource uuid)) h
+refuses_as One Other is (ReadFault path) h = tt
+refuses_as One Other is (UnknownName name) h = is (Err (UnknownName name)) h
+refuses_as One Other is (UnknownPackage uuid) h = is (Err (UnknownPackage uuid)) h
+refuses_as One Other is (AmbiguousName first second) h = is (Err (AmbiguousName first second)) h
+refuses_as One Other is (Limit kind count) h = is (Err (Limit kind count)) h
+refuses_as One Other is (Differs difference) h = is (Err (Differs difference)) h
+refuses_as One Other is (NotInManifest name) h = is (Err (NotInManifest name)) h
+refuses_as One Other is (WrongJulia text) h = is (Err (WrongJulia text)) h
+refuses_as One Other is (NotBuilt word) h = is (Err (NotBuilt word)) h
+refuses_as One Other is Memory h = tt
+refuses_as One Other is SinkFault h = h
+
+-- an answer that is due by one relation is due by another
+answers_as : (One Other : Result (List ℕ) Status → Type 0) → ((answer : Result (List ℕ) Status) → One answer → Other answer) → (answer : Result (String Global) Status)
+    → AnswersBy One answer → AnswersBy Other answer
+answers_as One Other is (Ok text) h = is (Ok (string_bytes text)) h
+answers_as One Other is (Err status) h = refuses_as One Other is status h
+
+module _ (valid_law : ValidAlike) (raised_law : RaisedAlike) (files : Files) (catalog : SaidCatalog) (w : Wanted) (s : Selected) (extra : List Id) (book : List Packed)
+    (gathers : gathered files catalog (scope w) extra ≡ Ok book) where
+  abbrev over_all : Judged
+  over_all = record { offers = all_offers files catalog (scope w); wanted = w; selected = s; book = book }
+
+  raises : IsValid (all_offers files catalog (scope w)) w s → (raise : Option (Id × Version)) → IsRaise (judged_by book w s) raise → IsRaise over_all raise
+  raises valid None none = λ u v can. none u v ((raised_law files catalog w extra book s u v gathers valid).1 can)
+  raises valid (Some to) first = record {
+    number = first.number;
+    place = first.place;
+    least = first.least;
+    named = first.named;
+    can = (raised_law files catalog w extra book s to.0 to.1 gathers valid).0 first.can;
+  }
+
+  judges : (answer : Result (List ℕ) Status) → IsJudgement (judged_by book w s) answer → IsJudgement over_all answer
+  judges (Ok text) good =
+      let valid = (valid_law files catalog w extra book s gathers).0 good.valid in
+      record { valid = valid; raise = good.raise; raises = raises valid good.raise good.raises; told = good.told }
+  judges (Err status) broken = record {
+    invalid = λ valid. broken.invalid ((valid_law files catalog w extra book s gathers).1 valid);
+    verdict = broken.verdict;
+    first = broken.first;
+    told = broken.told;
+  }
+
+  unless_many : (many : Bool) (refusal : Status) (answer : Result (List ℕ) Status) → IsAnswerOn (cond many (Err refusal) (Ok (judged_by book w s))) answer
+      → IsAnswerOn (cond many (Err refusal) (Ok over_all)) answer
+  unless_many true refusal answer h = h
+  unless_many false refusal answer h = judges answer h
+
+  by_book : (answer : Result (List ℕ) Status) → IsAnswerOn (with_book (book_offers book) w s book) answer → IsAnswerOn (with_book (all_offers files catalog (scope w)) w s book) answer
+  by_book answer h = unless_many (nat_lt 65536 (states_told book)) (Limit States (states_told book)) answer h
+
+  by_demand : extra ≡ keys_of s → (answer : Result (List ℕ) Status) → IsAnswerOn (with_book (book_offers book) w s book) answer → IsAnswerOn (with_demand files catalog s w) answer
+  by_demand same answer h =
+      let here : gathered files catalog (scope w) (keys_of s) ≡ Ok book = subst (λ ids. gathered files catalog (scope w) ids ≡ Ok book) same gathers in
+      subst (λ r. IsAnswerOn (then_ok (told_book r) (with_book (all_offers files catalog (scope w)) w s)) answer) (sym here) (by_book answer h)
+
+-- the answer by a book that was gathered
+pub by_gathered : ValidAlike → RaisedAlike → (told : Option Files) (catalog : SaidCatalog) (w : Wanted) (s : Selected) (extra : List Id) (book : List Packed)
+    → IfSome told (λ files. gathered files catalog (scope w) extra ≡ Ok book) → extra ≡ keys_of s → (answer : Result (String Global) Status)
+    → AnswersOn (with_book (book_offers book) w s book) answer → IfSome told (λ files. AnswersOn (with_demand files catalog s w) answer)
+by_gathered valid_law raised_law None catalog w s extra book gathers same answer h = tt
+by_gathered valid_law raised_law (Some files) catalog w s extra book gathers same answer h =
+    answers_as (IsAnswerOn (with_book (book_offers book) w s book)) (IsAnswerOn (with_demand files catalog s w))
+    (by_demand valid_law raised_law files catalog w s extra book gathers same) answer h
+
+-- the answer by a demand that the edit gave
+pub by_edit : (told : Option Files) (catalog : SaidCatalog) (s : Selected) (edit : Result Edited EditRefusal) (it : Edited) → edit ≡ Ok it → (answer : Result (String Global) Status)
+    → IfSome told (λ files. AnswersOn (with_demand files catalog s it.demand) answer) → IfSome told (λ files. AnswersOn (with_selection files catalog s edit) answer)
+by_edit told catalog s edit it is answer h = subst (λ e. IfSome told (λ files. AnswersOn (with_selection files catalog s e) answer)) (sym is) h
+
+-- what comes nowhere
+pub nowhere : (told : Option Files) (P : Files → Type 0) → IfSome told (λ files. ⊥) → IfSome told P
+nowhere None P h = tt
+nowhere (Some files) P h = absurd h

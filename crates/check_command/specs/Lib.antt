@@ -1,0 +1,4 @@
+pub mod Lines
+pub mod CheckDue
+pub mod Answered
+pub mod Refusals

@@ -1,0 +1,149 @@
+//! The verdict on what the manifest says, over the book.
+ghost use Rattle.std.specs.Prelude.{◌≡◌, ◌≢◌, ◌≤◌, ◌<◌, ℕ, length, Some, IfOk, IfErr, MatchOption, string_bytes};
+ghost use Rattle.offer_terms.specs.Booked.{book_offers, package_at};
+ghost use Rattle.offer_terms.specs.Demanded.{wanted};
+ghost use Rattle.offer_terms.specs.Feasible.{IsValid};
+ghost use Rattle.command_answers.specs.Answers.{NoFault, IsLate, IsUnprinted};
+ghost use Rattle.selection_check.specs.Raises.{HasFewOffers};
+ghost use Rattle.selection_check.specs.Scratch.{IsScratchFor};
+ghost use Rattle.selection_check.specs.Verdicts.{IsFirstBreach};
+ghost use Rattle.check_command.specs.CheckDue as spec;
+ghost use Rattle.check_command.specs.Answered.{AnswersOn};
+ghost use Rattle.check_command.specs.Lines.{good_text};
+
+use crate::lines::{good_line, raise_lines};
+use command_answers::{Difference, Status};
+use offer_book::{Book, Demand, Selection};
+use pkg_world::LimitKind;
+use selection_check::{Scratch, Verdict, check, raisable, valid_breaks_none};
+use std::alloc::{AllocError, Global};
+
+/// The most states that the packages of a book may have.
+const MOST_STATES: u64 = 65536;
+
+/// The answer on a selection by what a book offers, where its packages don't have too many states.
+pub(crate) fn of_book(
+    alloc: Global,
+    demand: &Demand,
+    selection: &Selection,
+    book: &Book,
+) -> Result<String, Status>
+    ensures answer { AnswersOn (spec.with_book (book_offers book.now) (wanted demand.now) selection.now.items book.now) result }
+    ensures late { IfErr result IsLate }
+    ensures unprinted { IfErr result IsUnprinted }
+    ensures fault { IfErr result NoFault }
+{
+    let count = states_of(book);
+    if count > MOST_STATES {
+        return Err(Status::Limit(LimitKind::States, count));
+    }
+    judged(alloc, demand, selection, book)
+}
+
+/// How many states the packages of a book have, that they are absent counted; a count stands still at its type's end.
+fn states_of(book: &Book) -> u64
+    ensures { result ≡ spec.states_told book.now }
+{
+    let mut count = 0u64;
+    for package in 0..book.packages() {
+        let offers = book.offers(package).len() as u64;
+        count = count.saturating_add(offers.saturating_add(1));
+    }
+    count
+}
+
+/// The answer on a selection by what a book offers.
+fn judged(
+    alloc: Global,
+    demand: &Demand,
+    selection: &Selection,
+    book: &Book,
+) -> Result<String, Status>
+    requires few { HasFewOffers book.now }
+    ensures answer { AnswersOn (Ok (spec.judged_by book.now (wanted demand.now) selection.now.items)) result }
+    ensures late { IfErr result IsLate }
+    ensures unprinted { IfErr result IsUnprinted }
+    ensures fault { IfErr result NoFault }
+{
+    match Scratch::make(alloc, book) {
+        Ok(mut scratch) => with_scratch(alloc, demand, selection, book, &mut scratch),
+        Err(_) => Err(Status::Memory),
+    }
+}
+
+fn with_scratch(
+    alloc: Global,
+    demand: &Demand,
+    selection: &Selection,
+    book: &Book,
+    scratch: &mut Scratch,
+) -> Result<String, Status>
+    requires few { HasFewOffers book.now }
+    requires made { IsScratchFor book.now scratch.old }
+    ensures answer { AnswersOn (Ok (spec.judged_by book.now (wanted demand.now) selection.now.items)) result }
+    ensures late { IfErr result IsLate }
+    ensures unprinted { IfErr result IsUnprinted }
+    ensures fault { IfErr result NoFault }
+{
+    match first_breach(book, demand, selection, scratch) {
+        Some(verdict) => Err(Status::Differs(Difference::Broken(verdict))),
+        None => match good_lines(alloc, demand, selection, book, scratch) {
+            Ok(text) => Ok(text),
+            Err(_) => Err(Status::Memory),
+        },
+    }
+}
+
+/// The first clause that the selection breaks, None where it is valid.
+fn first_breach(
+    book: &Book,
+    demand: &Demand,
+    selection: &Selection,
+    scratch: &mut Scratch,
+) -> Option<Verdict>
+    requires made { IsScratchFor book.now scratch.old }
+    ensures breach { MatchOption result
+        (IsValid (book_offers book.now) (wanted demand.now) selection.now.items)
+        (λ verdict. spec.IsBreach book.now (wanted demand.now) selection.now.items verdict) }
+    ensures made { IsScratchFor book.now scratch.new }
+{
+    valid_breaks_none();
+    match check(book, demand, selection, scratch) {
+        Verdict::Good => None,
+        Verdict::MissingRoot(uuid) => Some(Verdict::MissingRoot(uuid)),
+        Verdict::NoOffer(uuid) => Some(Verdict::NoOffer(uuid)),
+        Verdict::MissingDep(uuid, missing) => Some(Verdict::MissingDep(uuid, missing)),
+        Verdict::Outside(uuid, outside) => Some(Verdict::Outside(uuid, outside)),
+        Verdict::PinBroken(uuid) => Some(Verdict::PinBroken(uuid)),
+        Verdict::Unneeded(uuid) => Some(Verdict::Unneeded(uuid)),
+    }
+}
+
+/// The lines of a valid selection.
+fn good_lines(
+    alloc: Global,
+    demand: &Demand,
+    selection: &Selection,
+    book: &Book,
+    scratch: &mut Scratch,
+) -> Result<String, AllocError>
+    requires valid { IsValid (book_offers book.now) (wanted demand.now) selection.now.items }
+    requires few { HasFewOffers book.now }
+    requires made { IsScratchFor book.now scratch.old }
+    ensures { IfOk result (λ text. spec.IsGood (spec.judged_by book.now (wanted demand.now) selection.now.items) (string_bytes text)) }
+{
+    match raisable(book, demand, selection, scratch) {
+        Some((package, place)) => with_raise(alloc, book, package, place),
+        None => good_line(alloc),
+    }
+}
+
+/// The lines with that package and the version of its offer in that place.
+fn with_raise(alloc: Global, book: &Book, package: u32, place: u32) -> Result<String, AllocError>
+    requires known { «package» < length book.now }
+    requires inside { place < length (package_at book.now «package»).offers }
+    ensures { IfOk result (λ text. string_bytes text ≡ good_text (spec.raised_to book.now «package» place)) }
+{
+    let offers = book.offers(package);
+    raise_lines(alloc, &book.uuid(package), &offers[place as usize].version)
+}
