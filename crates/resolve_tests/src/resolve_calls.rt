@@ -86,20 +86,20 @@ struct Asked {
     demand: Demand,
 }
 
-fn asked_in(alloc: Global, store: &mut MemStore, world: &World) -> Result<Asked, Lost> {
+fn ask_in(alloc: Global, store: &mut MemStore, world: &World) -> Result<Asked, Lost> {
     let demand = demand_of(alloc, world)?;
     let book = book_of(alloc, store, &world.catalog, &demand, &Ids::make(alloc))?;
     Ok(Asked { book, demand })
 }
 
-fn asked(alloc: Global, project: &str) -> Result<Asked, Lost> {
+fn ask(alloc: Global, project: &str) -> Result<Asked, Lost> {
     let mut store = store_of(alloc, project)?;
     let world = world_in(alloc, &mut store)?;
-    asked_in(alloc, &mut store, &world)
+    ask_in(alloc, &mut store, &world)
 }
 
 fn resolved_text(alloc: Global, project: &str, budget: u32) -> Result<String, Lost> {
-    let asked = asked(alloc, project)?;
+    let asked = ask(alloc, project)?;
     Ok(told(alloc, &asked.book, &asked.demand, budget)?)
 }
 
@@ -128,7 +128,7 @@ fn table_text(alloc: Global, table: &ClassTable) -> Result<String, AllocError> {
 }
 
 fn classes_text(alloc: Global, project: &str) -> Result<String, Lost> {
-    let asked = asked(alloc, project)?;
+    let asked = ask(alloc, project)?;
     match class_table(alloc, &asked.book, &asked.demand) {
         Ok(table) => Ok(table_text(alloc, &table)?),
         Err(_) => Err(Lost::Memory),
