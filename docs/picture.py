@@ -18,7 +18,7 @@ LAYERS = {
     "The resolver's core": "bit_rows lex_weights version_graph graph_pruning refutation_log maxsum_messages decimation_repair raise_pass instance_search book_graph resolve_core",
     "The command": "command_answers command_words offers_command home_commands check_command pkg_top",
     "The edge": "read_once jlpkg",
-    "Cases and tests": "worked_cases text_tests file_tests store_tests depot_tests graph_tests offer_tests selection_tests",
+    "Cases and tests": "worked_cases text_tests file_tests store_tests depot_tests graph_tests offer_tests selection_tests resolve_tests",
 }
 
 
