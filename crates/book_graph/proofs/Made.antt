@@ -9,7 +9,7 @@ use Rattle.version_graph.specs.Answers.{SumsPass}
 use Rattle.version_graph.specs.declared.fault.GraphFault.{GraphFault}
 use Rattle.version_graph.specs.declared.fault.GraphFault.TheVariants.{Limit, Memory}
 use Rattle.book_graph.specs.StandsFor.{id_of, offer_in, sizes_of, state_count, Shuts, Excludes, StandsFor}
-use Rattle.book_graph.specs.Limits.{IsPast}
+use Rattle.book_graph.specs.Limits.{HasFew, IsPast}
 use Rattle.book_graph.specs.Building.{IsSized, Bars, Forbids, IsShut, AreExcluded}
 use Rattle.book_graph.proofs.Counts.{count_at, few_offers}
 
@@ -57,14 +57,14 @@ module _ (book : List Packed) (w : Wanted) (a b c d : Graph) (sized : IsSized bo
 pub same_graph : (g : Graph) → SameGraph g g
 same_graph g = record { sizes = refl; barred = λ p i. refl; forbidden = λ p i q j. refl }
 
-pub past_sums : (book : List Packed) (w : Wanted) (g : Graph) (fault : GraphFault) → StandsFor book w g → SumsPass g fault → IsPast book w fault
-past_sums book w g Memory stands past = tt
-past_sums book w g (Limit Packages n) stands past = absurd past
-past_sums book w g (Limit States n) stands past = absurd past
-past_sums book w g (Limit Bits n) stands past = record { graph = g; stands = stands; says = past }
-past_sums book w g (Limit Cells n) stands past = record { graph = g; stands = stands; says = past }
-past_sums book w g (Limit TreeDepth n) stands past = absurd past
-past_sums book w g (Limit TreeFiles n) stands past = absurd past
+pub past_sums : (book : List Packed) (w : Wanted) (g : Graph) (fault : GraphFault) → HasFew book → StandsFor book w g → SumsPass g fault → IsPast book w fault
+past_sums book w g Memory few stands past = tt
+past_sums book w g (Limit Packages n) few stands past = absurd past
+past_sums book w g (Limit States n) few stands past = absurd past
+past_sums book w g (Limit Bits n) few stands past = (few, record { graph = g; stands = stands; says = past })
+past_sums book w g (Limit Cells n) few stands past = (few, record { graph = g; stands = stands; says = past })
+past_sums book w g (Limit TreeDepth n) few stands past = absurd past
+past_sums book w g (Limit TreeFiles n) few stands past = absurd past
 
 -- ---- by the answer
 

@@ -14,14 +14,19 @@ pub record SaysOfOne (book : List Packed) (w : Wanted) (Says : Graph → Type 0)
   pub stands : StandsFor book w graph
   pub says : Says graph
 
+-- neither more than 4,096 packages nor more than 65,536 states
+pub record HasFew (book : List Packed) : Type 0 where
+  pub few : length book ≤ 4096
+  pub small : sum (sizes_of book) ≤ 65536
+
 -- more than 4,096 packages, more than 65,536 states, more than 2^30 bits or more than 2^25 cells, the first of these. The
 -- count of packages is told as 4,097; the others are told whole, that of states up to the greatest number of 64 bits
 abbrev pub IsPast : List Packed → Wanted → GraphFault → Type 0
 IsPast book w Memory = Unit {0}
 IsPast book w (Limit Packages n) = (4096 < length book) × (n ≡ 4097)
 IsPast book w (Limit States n) = (length book ≤ 4096) × (65536 < sum (sizes_of book)) × (n ≡ min (sum (sizes_of book)) (2 ^ 64 - 1))
-IsPast book w (Limit Bits n) = SaysOfOne book w (λ g. (2 ^ 30 < bits g) × (n ≡ bits g))
-IsPast book w (Limit Cells n) = SaysOfOne book w (λ g. (bits g ≤ 2 ^ 30) × (2 ^ 25 < cells g) × (n ≡ cells g))
+IsPast book w (Limit Bits n) = HasFew book × SaysOfOne book w (λ g. (2 ^ 30 < bits g) × (n ≡ bits g))
+IsPast book w (Limit Cells n) = HasFew book × SaysOfOne book w (λ g. (bits g ≤ 2 ^ 30) × (2 ^ 25 < cells g) × (n ≡ cells g))
 IsPast book w (Limit TreeDepth n) = ⊥
 IsPast book w (Limit TreeFiles n) = ⊥
 

@@ -1,4 +1,4 @@
-mod StateLemmas
+mod LimitLemmas
 mod JudgeLemmas
 mod LiftLemmas
 mod RefusalLemmas

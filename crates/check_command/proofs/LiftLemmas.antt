@@ -1,5 +1,5 @@
 -- What a book's offers say of a selection, the offers of all packages say.
-use Rattle.std.proofs.Common.{◌≡◌, ℕ, Bool, true, false, cond, List, Option, Some, None, IfSome, Result, Ok, Err, String, string_bytes, nat_lt, sym, subst}
+use Rattle.std.proofs.Common.{◌≡◌, ℕ, List, Option, Some, None, IfSome, Result, Ok, Err, String, string_bytes, sym, subst, inl, inr}
 use Rattle.std.specs.declared.alloc.Global.{Global}
 use Rattle.std.specs.Map.{keys_of}
 use Rattle.jl_versions.specs.declared.version.Version.{Version}
@@ -14,11 +14,10 @@ use Rattle.offer_book.specs.Scope.{scope}
 use Rattle.offer_book.specs.AllOffers.{all_offers}
 use Rattle.offer_book.specs.Gathered.{gathered}
 use Rattle.offer_book.specs.Laws.{ValidAlike, RaisedAlike}
-use Rattle.pkg_world.specs.declared.cause.LimitKind.TheVariants.{States}
 use Rattle.pkg_commands.specs.Edit.{Edited, EditRefusal}
 use Rattle.command_answers.specs.declared.status.Status.{Status}
 use Rattle.command_answers.specs.declared.status.Status.TheVariants.{Ok as StatusOk, BadWords, MissingFile, BadFile, NeedsFetch, NoIdentity, NoSource, ReadFault, UnknownName, UnknownPackage, AmbiguousName, Limit, Differs, NotInManifest, WrongJulia, NotBuilt, Memory, SinkFault}
-use Rattle.check_command.specs.CheckDue.{Judged, judged_by, states_told, with_book, with_demand, with_selection, told_book, IsRaise, IsJudgement, IsAnswerOn}
+use Rattle.check_command.specs.CheckDue.{Judged, judged_by, with_book, with_demand, with_selection, told_book, IsRaise, IsJudgement, IsAnswerOn}
 use Rattle.check_command.specs.Answered.{RefusesBy, AnswersBy, AnswersOn}
 
 refuses_as : (One Other : Result (List ℕ) Status → Type 0) → ((answer : Result (List ℕ) Status) → One answer → Other answer) → (status : Status) → RefusesBy One status → RefusesBy Other status
@@ -63,28 +62,21 @@ module _ (valid_law : ValidAlike) (raised_law : RaisedAlike) (files : Files) (ca
   }
 
   judges : (answer : Result (List ℕ) Status) → IsJudgement (judged_by book w s) answer → IsJudgement over_all answer
-  judges (Ok text) good =
+  judges (Ok text) (fits, good) =
       let valid = (valid_law files catalog w extra book s gathers).0 good.valid in
-      record { valid = valid; raise = good.raise; raises = raises valid good.raise good.raises; told = good.told }
-  judges (Err status) broken = record {
+      (fits, record { valid = valid; raise = good.raise; raises = raises valid good.raise good.raises; told = good.told })
+  judges (Err status) (inl past) = inl past
+  judges (Err status) (inr (fits, broken)) = inr (fits, record {
     invalid = λ valid. broken.invalid ((valid_law files catalog w extra book s gathers).1 valid);
     verdict = broken.verdict;
     first = broken.first;
     told = broken.told;
-  }
-
-  unless_many : (many : Bool) (refusal : Status) (answer : Result (List ℕ) Status) → IsAnswerOn (cond many (Err refusal) (Ok (judged_by book w s))) answer
-      → IsAnswerOn (cond many (Err refusal) (Ok over_all)) answer
-  unless_many true refusal answer h = h
-  unless_many false refusal answer h = judges answer h
-
-  by_book : (answer : Result (List ℕ) Status) → IsAnswerOn (with_book (book_offers book) w s book) answer → IsAnswerOn (with_book (all_offers files catalog (scope w)) w s book) answer
-  by_book answer h = unless_many (nat_lt 65536 (states_told book)) (Limit States (states_told book)) answer h
+  })
 
   by_demand : extra ≡ keys_of s → (answer : Result (List ℕ) Status) → IsAnswerOn (with_book (book_offers book) w s book) answer → IsAnswerOn (with_demand files catalog s w) answer
   by_demand same answer h =
       let here : gathered files catalog (scope w) (keys_of s) ≡ Ok book = subst (λ ids. gathered files catalog (scope w) ids ≡ Ok book) same gathers in
-      subst (λ r. IsAnswerOn (then_ok (told_book r) (with_book (all_offers files catalog (scope w)) w s)) answer) (sym here) (by_book answer h)
+      subst (λ r. IsAnswerOn (then_ok (told_book r) (with_book (all_offers files catalog (scope w)) w s)) answer) (sym here) (judges answer h)
 
 -- the answer by a book that was gathered
 pub by_gathered : ValidAlike → RaisedAlike → (told : Option Files) (catalog : SaidCatalog) (w : Wanted) (s : Selected) (extra : List Id) (book : List Packed)

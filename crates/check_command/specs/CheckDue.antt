@@ -3,14 +3,15 @@
 --     IsDue files place answer     this answer is due
 -- The refusals come in this order: the project file and then the manifest, which must both be there; the files of the catalog;
 -- Julia's version, and then what is to be fetched; the tables of the packages that are reached from the roots and from what
--- the manifest selects, roots without a source, and too many packages; too many states. Then the verdict, where it isn't good.
-use Rattle.std.specs.Prelude.{◌≡◌, ℕ, ◌+◌, ◌-◌, ◌^◌, nat_lt, min, if◌then◌else◌, List, length, slice_get, Option, Some, None, option_map, Result, Ok, Err}
-use Rattle.std.specs.List.{sum_by}
+-- the manifest selects, roots without a source, and too many packages; the limits of the instance that stands for the book and
+-- the demand. Then the verdict, where it isn't good.
+use Rattle.std.specs.Prelude.{◌≡◌, ◌⊎◌, ℕ, List, slice_get, Option, Some, None, option_map, Result, Ok, Err}
 use Rattle.std.specs.Map.{keys_of}
 use Rattle.jl_versions.specs.declared.version.Version.{Version}
 use Rattle.pkg_world.specs.Each.{then_ok}
 use Rattle.pkg_world.specs.Tree.{Files}
-use Rattle.pkg_world.specs.declared.cause.LimitKind.TheVariants.{Packages, States}
+use Rattle.pkg_world.specs.declared.cause.LimitKind.{LimitKind}
+use Rattle.pkg_world.specs.declared.cause.LimitKind.TheVariants.{Packages}
 use Rattle.pkg_world.specs.declared.place.Place.{Place}
 use Rattle.registry_tables.specs.Answers.{Read, missing, bad}
 use Rattle.project_file.specs.Said as project
@@ -28,6 +29,8 @@ use Rattle.offer_book.specs.Gathered.{BookRefusal, unusable, unknown, too_many, 
 use Rattle.selection_check.specs.Raises.{IsLeastRaise}
 use Rattle.selection_check.specs.Verdicts.{IsFirstBreach}
 use Rattle.selection_check.specs.declared.verdict.Verdict.{Verdict}
+use Rattle.version_graph.specs.declared.fault.GraphFault.TheVariants as instance
+use Rattle.book_graph.specs.Limits.{IsPast, Fits}
 use Rattle.home_files.specs.HomeFiles.{HomeFiles, home_files}
 use Rattle.pkg_commands.specs.Edit.{Edited, EditRefusal, wrong, to_fetch, edited}
 use Rattle.pkg_commands.specs.declared.command.Command.TheVariants.{Resolve}
@@ -62,23 +65,8 @@ told_book (Err (unusable (bad path cause))) = Err (BadFile path cause)
 told_book (Err (unknown uuid)) = Err (UnknownPackage uuid)
 told_book (Err too_many) = Err (Limit Packages 4097)
 
--- the states of a package are its offers, and that it is absent
-abbrev pub package_states : Packed → ℕ
-package_states it = length it.offers + 1
-
-abbrev pub states_of : List Packed → ℕ
-states_of book = sum_by package_states book
-
--- a count stands still at its type's end
-abbrev pub states_told : List Packed → ℕ
-states_told book = min (states_of book) (2 ^ 64 - 1)
-
-abbrev pub if_few : ℕ → Judged → Result Judged Status
-if_few count it = if nat_lt 65536 count then Err (Limit States count) else Ok it
-
--- the book may not have too many states
 abbrev pub with_book : Offers → Wanted → Selected → List Packed → Result Judged Status
-with_book offers w s book = if_few (states_told book) (record { offers = offers; wanted = w; selected = s; book = book })
+with_book offers w s book = Ok (record { offers = offers; wanted = w; selected = s; book = book })
 
 -- the book is gathered with the packages that the manifest selects beside the roots
 abbrev pub with_demand : Files → SaidCatalog → Selected → Wanted → Result Judged Status
@@ -137,9 +125,16 @@ pub record IsBreach (book : List Packed) (w : Wanted) (s : Selected) (verdict : 
   pub first : IsFirstBreach book w s verdict
   pub invalid : IsValid (book_offers book) w s → ⊥
 
+-- the instance of the book and the demand passes a limit, and the first one that it passes is told
+pub record IsTooMuch (book : List Packed) (w : Wanted) (status : Status) : Type 0 where
+  pub kind : LimitKind
+  pub count : ℕ
+  pub past : IsPast book w (instance.Limit kind count)
+  pub told : status ≡ Limit kind count
+
 abbrev pub IsJudgement : Judged → Result (List ℕ) Status → Type 0
-IsJudgement it (Ok text) = IsGood it text
-IsJudgement it (Err status) = IsBroken it status
+IsJudgement it (Ok text) = Fits it.book it.wanted × IsGood it text
+IsJudgement it (Err status) = IsTooMuch it.book it.wanted status ⊎ (Fits it.book it.wanted × IsBroken it status)
 
 abbrev pub IsAnswerOn : Result Judged Status → Result (List ℕ) Status → Type 0
 IsAnswerOn (Ok it) answer = IsJudgement it answer

@@ -1,7 +1,9 @@
--- How `check` ends without a catalog or a book.
+-- How `check` ends without a catalog, a book or an instance.
 use Rattle.std.specs.Prelude.{ℕ, List, Option, Some, None}
 use Rattle.offer_catalog.specs.declared.fault.BookFault.{BookFault}
 use Rattle.offer_catalog.specs.declared.fault.BookFault.TheVariants as faults
+use Rattle.version_graph.specs.declared.fault.GraphFault.{GraphFault}
+use Rattle.version_graph.specs.declared.fault.GraphFault.TheVariants as instance
 use Rattle.command_answers.specs.declared.status.Status.{Status}
 use Rattle.command_answers.specs.declared.status.Status.TheVariants.{MissingFile, BadFile, ReadFault, UnknownPackage, Limit, Memory}
 
@@ -22,3 +24,8 @@ unknown_in (faults.BadFile path cause) = None
 unknown_in (faults.UnknownPackage uuid) = Some uuid
 unknown_in (faults.Limit kind count) = None
 unknown_in faults.Memory = None
+
+-- the status that tells why there is no instance
+abbrev pub limit_status : GraphFault → Status
+limit_status (instance.Limit kind count) = Limit kind count
+limit_status instance.Memory = Memory

@@ -31,8 +31,8 @@ use std::alloc::{AllocError, Global};
 ///
 /// Refusals, of which the first that is due comes: MissingFile and BadFile of the project file, the manifest, and the files
 /// of the catalog; WrongJulia; NeedsFetch; MissingFile and BadFile of the tables of the packages that are reached; UnknownPackage;
-/// Limit of packages and of states; Differs with the first clause that is broken. ReadFault comes where the store fails, and
-/// want of memory is free.
+/// Limit of packages, and then of the states, bits and cells of the instance that stands for the book and the demand; Differs
+/// with the first clause that is broken. ReadFault comes where the store fails, and want of memory is free.
 pub fn check<S: Store>(alloc: Global, place: &Place, store: &mut S) -> Result<String, Status>
     ensures answer { IfSome (S.files store.old) (λ all. AnswersBy (spec.IsDue all place.now) result) }
     ensures late { IfErr result IsLate }

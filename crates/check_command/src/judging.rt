@@ -1,10 +1,10 @@
 //! The verdict on what the manifest says, over the book.
-ghost use Rattle.std.specs.Prelude.{◌≡◌, ◌≢◌, ◌≤◌, ◌<◌, ℕ, length, Some, IfOk, IfErr, MatchOption, string_bytes};
+ghost use Rattle.std.specs.Prelude.{◌≡◌, ◌≢◌, ◌≤◌, ◌<◌, ℕ, length, Some, IfOk, IfErr, OnOk, MatchOption, string_bytes};
 ghost use Rattle.offer_terms.specs.Booked.{book_offers, package_at};
 ghost use Rattle.offer_terms.specs.Demanded.{wanted};
 ghost use Rattle.offer_terms.specs.Feasible.{IsValid};
+ghost use Rattle.book_graph.specs.Limits.{IsPast, Fits};
 ghost use Rattle.command_answers.specs.Answers.{NoFault, IsLate, IsUnprinted};
-ghost use Rattle.selection_check.specs.Raises.{HasFewOffers};
 ghost use Rattle.selection_check.specs.Scratch.{IsScratchFor};
 ghost use Rattle.selection_check.specs.Verdicts.{IsFirstBreach};
 ghost use Rattle.check_command.specs.CheckDue as spec;
@@ -12,16 +12,15 @@ ghost use Rattle.check_command.specs.Answered.{AnswersOn};
 ghost use Rattle.check_command.specs.Lines.{good_text};
 
 use crate::lines::{good_line, raise_lines};
+use crate::refusals::limit_status;
+use book_graph::make_instance;
 use command_answers::{Difference, Status};
 use offer_book::{Book, Demand, Selection};
-use pkg_world::LimitKind;
 use selection_check::{Scratch, Verdict, check, raisable, valid_breaks_none};
 use std::alloc::{AllocError, Global};
+use version_graph::GraphFault;
 
-/// The most states that the packages of a book may have.
-const MOST_STATES: u64 = 65536;
-
-/// The answer on a selection by what a book offers, where its packages don't have too many states.
+/// The answer on a selection by what a book offers, where the instance of the book and the demand passes no limit.
 pub(crate) fn of_book(
     alloc: Global,
     demand: &Demand,
@@ -33,23 +32,20 @@ pub(crate) fn of_book(
     ensures unprinted { IfErr result IsUnprinted }
     ensures fault { IfErr result NoFault }
 {
-    let count = states_of(book);
-    if count > MOST_STATES {
-        return Err(Status::Limit(LimitKind::States, count));
+    match within_limits(alloc, book, demand) {
+        Ok(()) => judged(alloc, demand, selection, book),
+        Err(fault) => Err(limit_status(fault)),
     }
-    judged(alloc, demand, selection, book)
 }
 
-/// How many states the packages of a book have, that they are absent counted; a count stands still at its type's end.
-fn states_of(book: &Book) -> u64
-    ensures { result ≡ spec.states_told book.now }
+/// Refused where the instance of the book and the demand passes a limit, and for want of memory. The instance is made for this
+/// alone.
+fn within_limits(alloc: Global, book: &Book, demand: &Demand) -> Result<(), GraphFault>
+    ensures fits { OnOk result (Fits book.now (wanted demand.now)) }
+    ensures past { IfErr result (IsPast book.now (wanted demand.now)) }
 {
-    let mut count = 0u64;
-    for package in 0..book.packages() {
-        let offers = book.offers(package).len() as u64;
-        count = count.saturating_add(offers.saturating_add(1));
-    }
-    count
+    let _instance = make_instance(alloc, book, demand)?;
+    Ok(())
 }
 
 /// The answer on a selection by what a book offers.
@@ -59,7 +55,7 @@ fn judged(
     selection: &Selection,
     book: &Book,
 ) -> Result<String, Status>
-    requires few { HasFewOffers book.now }
+    requires fits { Fits book.now (wanted demand.now) }
     ensures answer { AnswersOn (Ok (spec.judged_by book.now (wanted demand.now) selection.now.items)) result }
     ensures late { IfErr result IsLate }
     ensures unprinted { IfErr result IsUnprinted }
@@ -78,7 +74,7 @@ fn with_scratch(
     book: &Book,
     scratch: &mut Scratch,
 ) -> Result<String, Status>
-    requires few { HasFewOffers book.now }
+    requires fits { Fits book.now (wanted demand.now) }
     requires made { IsScratchFor book.now scratch.old }
     ensures answer { AnswersOn (Ok (spec.judged_by book.now (wanted demand.now) selection.now.items)) result }
     ensures late { IfErr result IsLate }
@@ -128,7 +124,7 @@ fn good_lines(
     scratch: &mut Scratch,
 ) -> Result<String, AllocError>
     requires valid { IsValid (book_offers book.now) (wanted demand.now) selection.now.items }
-    requires few { HasFewOffers book.now }
+    requires fits { Fits book.now (wanted demand.now) }
     requires made { IsScratchFor book.now scratch.old }
     ensures { IfOk result (λ text. spec.IsGood (spec.judged_by book.now (wanted demand.now) selection.now.items) (string_bytes text)) }
 {

@@ -1,10 +1,12 @@
-//! How `check` ends without a catalog or a book.
+//! How `check` ends without a catalog, a book or an instance.
 ghost use Rattle.std.specs.Prelude.{◌≡◌, None};
+ghost use Rattle.command_answers.specs.Answers.{NoFault, IsLate, IsUnprinted};
 ghost use Rattle.check_command.specs.Refusals as spec;
 
 use command_answers::Status;
 use offer_book::BookFault;
 use uuid::Uuid;
+use version_graph::GraphFault;
 
 /// The status that tells a fault.
 pub(crate) fn book_status(fault: BookFault) -> Status
@@ -42,5 +44,18 @@ fn known_status(fault: BookFault) -> Status
         BookFault::UnknownPackage(_) => unreachable!(),
         BookFault::Limit(kind, count) => Status::Limit(kind, count),
         BookFault::Memory => Status::Memory,
+    }
+}
+
+/// The status that tells why there is no instance.
+pub(crate) fn limit_status(fault: GraphFault) -> Status
+    ensures told { result ≡ spec.limit_status fault }
+    ensures late { IsLate result }
+    ensures unprinted { IsUnprinted result }
+    ensures fault { NoFault result }
+{
+    match fault {
+        GraphFault::Limit(kind, count) => Status::Limit(kind, count),
+        GraphFault::Memory => Status::Memory,
     }
 }

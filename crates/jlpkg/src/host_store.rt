@@ -27,8 +27,9 @@ const MOST_TURNS: u32 = 1 << 20;
 /// How many bytes a file holds at most: 64 MiB.
 const MOST_BYTES: usize = 64 << 20;
 
-/// How many bytes are asked for at a time, so that the longest file takes about a thousand turns.
-const TURN_BYTES: usize = 1 << 16;
+/// How many bytes are asked for at a time. Most files are small, and the room for these is made anew for each; the longest
+/// file takes 16,384 turns.
+const TURN_BYTES: usize = 1 << 12;
 
 /// The files behind a handle of the runtime, with the counts of failed reads and writes. The counts stop at
 /// 2^64 - 1.

@@ -36,6 +36,7 @@ returns-clause-past c =
     let g = c.forbid_excluded.new.builder in
     if_err c.finish.result _ _
     (λ fault. past_sums c.args.book.now (wanted c.args.demand.now) g fault
+    (record { few = omega arith; small = within_total (sizes_of c.args.book.now) c.state_total-total.result c.state_total-total.ensures.total (omega arith) })
     (stands_from c.args.book.now (wanted c.args.demand.now) c.in_ok-builder.builder c.bar_states.new.builder g g
     c.in_ok-builder.ensures.sized c.in_ok-builder.ensures.open c.bar_states.ensures c.in_ok-forbid_excluded.ensures (same_graph g)))
     c.finish.ensures.err
