@@ -1,0 +1,10 @@
+//! The commands that write: what the command `resolve` ends with.
+#![tactic(auto)]
+
+mod answering;
+mod laws;
+mod options;
+mod resolve_command;
+mod telling;
+
+pub use resolve_command::resolve_project;
