@@ -11,7 +11,7 @@ use Rattle.offer_book.specs.Scope.{scope}
 use Rattle.offer_book.specs.AllOffers.{all_offers}
 use Rattle.offer_book.specs.Gathered.{BookRefusal, unusable, unknown, too_many, gathered}
 use Rattle.book_graph.specs.StandsFor.{IsBook}
-use Rattle.command_answers.specs.Answers.{Refuses, IsUnprinted}
+use Rattle.command_answers.specs.Answers.{Refuses}
 use Rattle.command_answers.specs.Endings.{SaidEnding, said_ending, RefusesBy, EndsBy}
 use Rattle.command_answers.specs.declared.ending.Ending.{Ending}
 use Rattle.command_answers.specs.declared.status.Status.{Status}
@@ -56,36 +56,36 @@ ends : {T : Type 0} (phase : Result T Status) (next : T → Result Posed Status)
     → IsAnswerOn (then_ok phase next) budget classes (Err refusal)
 ends phase next budget classes refusal same = subst (λ r. IsAnswerOn (then_ok r next) budget classes (Err refusal)) (sym same) refl
 
-phase_ends : {T : Type 0} (phase : Result T Status) (next : T → Result Posed Status) (budget : ℕ) (classes : Bool) (status : Status) → IsUnprinted status → Refuses phase status
+phase_ends : {T : Type 0} (phase : Result T Status) (next : T → Result Posed Status) (budget : ℕ) (classes : Bool) (status : Status) → Refuses phase status
     → RefusesBy (IsAnswerOn (then_ok phase next) budget classes) status
-phase_ends phase next budget classes StatusOk u h = absurd u
-phase_ends phase next budget classes (BadWords word) u h = ends phase next budget classes (BadWords word) h
-phase_ends phase next budget classes (MissingFile path) u h = ends phase next budget classes (MissingFile path) h
-phase_ends phase next budget classes (BadFile path cause) u h = ends phase next budget classes (BadFile path cause) h
-phase_ends phase next budget classes (NeedsFetch name) u h = ends phase next budget classes (NeedsFetch name) h
-phase_ends phase next budget classes (NoIdentity name) u h = ends phase next budget classes (NoIdentity name) h
-phase_ends phase next budget classes (NoSource uuid) u h = ends phase next budget classes (NoSource uuid) h
-phase_ends phase next budget classes (Unsatisfiable log) u h = ends phase next budget classes (Unsatisfiable log) h
-phase_ends phase next budget classes (GaveUp log) u h = ends phase next budget classes (GaveUp log) h
-phase_ends phase next budget classes (ReadFault path) u h = tt
-phase_ends phase next budget classes (WriteFault path) u h = absurd u
-phase_ends phase next budget classes (Blocked path) u h = absurd u
-phase_ends phase next budget classes (UnknownName name) u h = ends phase next budget classes (UnknownName name) h
-phase_ends phase next budget classes (UnknownPackage uuid) u h = ends phase next budget classes (UnknownPackage uuid) h
-phase_ends phase next budget classes (AmbiguousName first second) u h = ends phase next budget classes (AmbiguousName first second) h
-phase_ends phase next budget classes (Limit kind count) u h = ends phase next budget classes (Limit kind count) h
-phase_ends phase next budget classes (Differs difference) u h = ends phase next budget classes (Differs difference) h
-phase_ends phase next budget classes (NotInManifest name) u h = ends phase next budget classes (NotInManifest name) h
-phase_ends phase next budget classes (WrongJulia text) u h = ends phase next budget classes (WrongJulia text) h
-phase_ends phase next budget classes (NotBuilt word) u h = ends phase next budget classes (NotBuilt word) h
-phase_ends phase next budget classes Memory u h = tt
-phase_ends phase next budget classes SinkFault u h = absurd u
+phase_ends phase next budget classes StatusOk h = h
+phase_ends phase next budget classes (BadWords word) h = ends phase next budget classes (BadWords word) h
+phase_ends phase next budget classes (MissingFile path) h = ends phase next budget classes (MissingFile path) h
+phase_ends phase next budget classes (BadFile path cause) h = ends phase next budget classes (BadFile path cause) h
+phase_ends phase next budget classes (NeedsFetch name) h = ends phase next budget classes (NeedsFetch name) h
+phase_ends phase next budget classes (NoIdentity name) h = ends phase next budget classes (NoIdentity name) h
+phase_ends phase next budget classes (NoSource uuid) h = ends phase next budget classes (NoSource uuid) h
+phase_ends phase next budget classes (Unsatisfiable log) h = ends phase next budget classes (Unsatisfiable log) h
+phase_ends phase next budget classes (GaveUp log) h = ends phase next budget classes (GaveUp log) h
+phase_ends phase next budget classes (ReadFault path) h = tt
+phase_ends phase next budget classes (WriteFault path) h = h
+phase_ends phase next budget classes (Blocked path) h = h
+phase_ends phase next budget classes (UnknownName name) h = ends phase next budget classes (UnknownName name) h
+phase_ends phase next budget classes (UnknownPackage uuid) h = ends phase next budget classes (UnknownPackage uuid) h
+phase_ends phase next budget classes (AmbiguousName first second) h = ends phase next budget classes (AmbiguousName first second) h
+phase_ends phase next budget classes (Limit kind count) h = ends phase next budget classes (Limit kind count) h
+phase_ends phase next budget classes (Differs difference) h = ends phase next budget classes (Differs difference) h
+phase_ends phase next budget classes (NotInManifest name) h = ends phase next budget classes (NotInManifest name) h
+phase_ends phase next budget classes (WrongJulia text) h = ends phase next budget classes (WrongJulia text) h
+phase_ends phase next budget classes (NotBuilt word) h = ends phase next budget classes (NotBuilt word) h
+phase_ends phase next budget classes Memory h = tt
+phase_ends phase next budget classes SinkFault h = h
 
 -- a phase that is refused ends the command so
 pub phase_refuses : {T : Type 0} (told : Option Files) (phase : Files → Result T Status) (next : Files → T → Result Posed Status) (budget : ℕ) (classes : Bool) (status : Status)
-    → IsUnprinted status → IfSome told (λ files. Refuses (phase files) status) → IfSome told (λ files. RefusesBy (IsAnswerOn (then_ok (phase files) (next files)) budget classes) status)
-phase_refuses None phase next budget classes status u h = tt
-phase_refuses (Some files) phase next budget classes status u h = phase_ends (phase files) (next files) budget classes status u h
+    → IfSome told (λ files. Refuses (phase files) status) → IfSome told (λ files. RefusesBy (IsAnswerOn (then_ok (phase files) (next files)) budget classes) status)
+phase_refuses None phase next budget classes status h = tt
+phase_refuses (Some files) phase next budget classes status h = phase_ends (phase files) (next files) budget classes status h
 
 -- and one that gives something, by what follows it
 pub phase_goes_on : {T : Type 0} (told : Option Files) (phase : Files → Result T Status) (next : Files → T → Result Posed Status) (budget : ℕ) (classes : Bool) (value : T)
@@ -94,6 +94,21 @@ pub phase_goes_on : {T : Type 0} (told : Option Files) (phase : Files → Result
 phase_goes_on None phase next budget classes value is answer h = tt
 phase_goes_on (Some files) phase next budget classes value is answer h =
     subst (λ r. EndsBy (IsAnswerOn (then_ok r (next files)) budget classes) answer) (sym is) h
+
+-- the same of a phase that reads no file
+everywhere : (told : Option Files) (P : Type 0) → P → IfSome told (λ files. P)
+everywhere None P h = tt
+everywhere (Some files) P h = h
+
+pub edit_refuses : {T : Type 0} (told : Option Files) (phase : Result T Status) (next : Files → T → Result Posed Status) (budget : ℕ) (classes : Bool) (status : Status)
+    → Refuses phase status → IfSome told (λ files. RefusesBy (IsAnswerOn (then_ok phase (next files)) budget classes) status)
+edit_refuses told phase next budget classes status h = phase_refuses told (λ files. phase) next budget classes status (everywhere told (Refuses phase status) h)
+
+pub edit_goes_on : {T : Type 0} (told : Option Files) (phase : Result T Status) (next : Files → T → Result Posed Status) (budget : ℕ) (classes : Bool) (value : T)
+    → phase ≡ Ok value → (answer : Result Ending Status) → IfSome told (λ files. EndsBy (IsAnswerOn (next files value) budget classes) answer)
+    → IfSome told (λ files. EndsBy (IsAnswerOn (then_ok phase (next files)) budget classes) answer)
+edit_goes_on told phase next budget classes value is answer h =
+    phase_goes_on told (λ files. phase) next budget classes value (everywhere told (phase ≡ Ok value) is) answer h
 
 gathers : (gathering : Result (List Packed) BookRefusal) (book : List Packed) → told_book gathering ≡ Ok book → gathering ≡ Ok book
 gathers (Ok it) book same = let here : it ≡ book = cc in ap Ok here
@@ -122,3 +137,11 @@ pub by_gathered : FoundIsDue → (told : Option Files) (catalog : SaidCatalog) (
 by_gathered law None catalog w extra none book budget classes books sound answer h = tt
 by_gathered law (Some files) catalog w extra none book budget classes books sound answer h =
     by_book law files catalog w book budget classes (subst (λ ids. booked_in files catalog w ids ≡ Ok book) none books) sound answer h
+
+pub book_refuses : (told : Option Files) (catalog : SaidCatalog) (w : Wanted) (extra : List Id) → extra ≡ [] → (budget : ℕ) (classes : Bool) (status : Status)
+    → IfSome told (λ files. Refuses (booked_in files catalog w extra) status)
+    → IfSome told (λ files. RefusesBy (IsAnswerOn (with_demand files catalog w) budget classes) status)
+book_refuses told catalog w extra none budget classes status h =
+    phase_refuses told (λ files. booked_in files catalog w [])
+    (λ files book. Ok (record { offers = all_offers files catalog (scope w); question = question_of w catalog.home.manifest book })) budget classes status
+    (subst (λ ids. IfSome told (λ files. Refuses (booked_in files catalog w ids) status)) none h)

@@ -1,6 +1,7 @@
 //! What a demand is resolved to over its book, and how this ends the command.
-ghost use Rattle.std.specs.Prelude.{IfOk, IfErr, MatchResult};
+ghost use Rattle.std.specs.Prelude.{IfOk, IfErr};
 ghost use Rattle.offer_terms.specs.Demanded.{wanted};
+ghost use Rattle.book_graph.specs.Limits.{IsPast};
 ghost use Rattle.book_graph.specs.StandsFor.{IsBook};
 ghost use Rattle.resolve_core.specs.Resolved.{IsResolved};
 ghost use Rattle.command_answers.specs.Answers.{NoFault, IsLate, IsUnprinted};

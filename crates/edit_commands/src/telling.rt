@@ -1,5 +1,5 @@
 //! The texts that tell what a demand is resolved to: the printed line, and the manifest.
-ghost use Rattle.std.specs.Prelude.{◌≡◌, ◌∷◌, [], Ok, length, IfOk, IfErr, string_bytes};
+ghost use Rattle.std.specs.Prelude.{◌≡◌, ◌∷◌, [], Ok, length, map, IfOk, IfErr, string_bytes};
 ghost use Rattle.manifest_file.specs.Written.{written as table_of};
 ghost use Rattle.offer_terms.specs.Demanded.{wanted};
 ghost use Rattle.toml_view.specs.Document.{viewed};
@@ -7,7 +7,7 @@ ghost use Rattle.book_graph.specs.Limits.{IsPast};
 ghost use Rattle.resolve_core.specs.Classed.{AreClassesOf};
 ghost use Rattle.manifest_writing.specs.Writing.{written as manifest_of};
 ghost use Rattle.resolve_lines.specs.Lines.{resolved_line as line_meant};
-ghost use Rattle.command_answers.specs.Endings.{said_writes};
+ghost use Rattle.command_answers.specs.Endings.{said_write};
 ghost use Rattle.edit_commands.specs.ResolveDue as spec;
 
 use command_answers::{Write, Writes};
@@ -84,7 +84,7 @@ pub(crate) fn writes_of(
     book: &Book,
     selection: &Selection,
 ) -> Result<Writes, AllocError>
-    ensures { IfOk result (λ writes. spec.IsWritten (spec.question_of (wanted demand.now) catalog.now.home.manifest book.now) selection.now.items (said_writes writes)) }
+    ensures { IfOk result (λ writes. spec.IsWritten (spec.question_of (wanted demand.now) catalog.now.home.manifest book.now) selection.now.items (map said_write writes.items)) }
 {
     let bytes = manifest_bytes(alloc, demand, book, selection)?;
     one_write(alloc, &catalog.home().manifest, bytes)
@@ -106,7 +106,7 @@ fn manifest_bytes(
 
 /// The replacing of one file.
 fn one_write(alloc: Global, path: &NormPath, bytes: Bytes) -> Result<Writes, AllocError>
-    ensures { IfOk result (λ writes. said_writes writes ≡ (path.now, bytes.items) ∷ []) }
+    ensures { IfOk result (λ writes. map said_write writes.items ≡ (path.now, bytes.items) ∷ []) }
 {
     let path = path.copy(alloc)?;
     let mut writes = Listed::make(alloc);

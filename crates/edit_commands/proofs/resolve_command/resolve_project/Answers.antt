@@ -13,4 +13,4 @@ returns-in-Ok-clause-answer g c =
 pub returns-in-Err-clause-answer : goal.returns-in-Err-clause-answer
 returns-in-Err-clause-answer g c =
     phase_refuses (g.S.Store.files c.args.store.now) (λ all. opened_in false all c.args.place.now) (λ all. with_opened all c.args.place.now) c.args.budget c.args.classes
-    c.in-Err.status c.in-Err.ensures.unprinted c.in-Err.ensures.told
+    c.in-Err.status c.in-Err.ensures.told
