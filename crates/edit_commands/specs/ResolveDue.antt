@@ -14,6 +14,7 @@ use Rattle.pkg_world.specs.Path.{Path}
 use Rattle.pkg_world.specs.Tree.{Files}
 use Rattle.pkg_world.specs.declared.place.Place.{Place}
 use Rattle.toml_view.specs.Document.{viewed}
+use Rattle.manifest_file.specs.Saying.{read_of}
 use Rattle.manifest_file.specs.Written.{written as table_of}
 use Rattle.offer_terms.specs.Offered.{Id, Offers, Selected}
 use Rattle.offer_terms.specs.Booked.{Packed}
@@ -79,11 +80,12 @@ abbrev pub IsLine : List Packed → Wanted → Bool → Resolved → List ℕ �
 IsLine book w false resolved line = line ≡ resolved_line (length resolved.selection.items) resolved.nodes
 IsLine book w true resolved line = HasClasses book w resolved line
 
--- the manifest alone is replaced, by a text that says the selection; no extensions are looked for in trees
+-- the manifest alone is replaced, by a text that says the selection and reads back so; no extensions are looked for in trees
 pub record IsWritten (q : Question) (s : Selected) (writes : List (Path × List ℕ)) : Type 0 where
   pub text : List ℕ
   pub only : writes ≡ (q.manifest, text) ∷ []
   pub says : viewed text ≡ Ok (table_of (written q.book q.wanted [] s))
+  pub reads : read_of text ≡ Ok (written q.book q.wanted [] s)
 
 -- what the question is resolved to within the budget, and how this is told
 pub record Tells (q : Question) (budget : ℕ) (classes : Bool) (resolved : Resolved) (e : SaidEnding) : Type 0 where

@@ -1,5 +1,6 @@
 //! The texts that tell what a demand is resolved to: the printed line, and the manifest.
 ghost use Rattle.std.specs.Prelude.{◌≡◌, ◌∷◌, [], Ok, length, map, IfOk, IfErr, string_bytes};
+ghost use Rattle.manifest_file.specs.Saying.{read_of};
 ghost use Rattle.manifest_file.specs.Written.{written as table_of};
 ghost use Rattle.offer_terms.specs.Demanded.{wanted};
 ghost use Rattle.toml_view.specs.Document.{viewed};
@@ -97,7 +98,8 @@ fn manifest_bytes(
     book: &Book,
     selection: &Selection,
 ) -> Result<Bytes, AllocError>
-    ensures { IfOk result (λ bytes. viewed bytes.items ≡ Ok (table_of (manifest_of book.now (wanted demand.now) [] selection.now.items))) }
+    ensures says { IfOk result (λ bytes. viewed bytes.items ≡ Ok (table_of (manifest_of book.now (wanted demand.now) [] selection.now.items))) }
+    ensures reads { IfOk result (λ bytes. read_of bytes.items ≡ Ok (manifest_of book.now (wanted demand.now) [] selection.now.items)) }
 {
     let found = FoundExtensions::new(alloc);
     let manifest = written(alloc, book, demand, selection, &found)?;
