@@ -15,7 +15,7 @@ use command_answers::{Ending, Status};
 use offer_book::{Catalog, Demand};
 use pkg_commands::Command;
 use pkg_world::{Ids, Place, Store};
-use project_phases::{Opened, book_of, edit, open};
+use project_phases::{Opened, edit_project, gather_book, open_project};
 use std::alloc::Global;
 
 /// What `resolve` ends with, or its refusal: the line of what is resolved, before it the lines of the classes where they are
@@ -45,7 +45,7 @@ pub fn resolve_project<S: Store>(
     ensures other { S.write_faults store.new ≡ S.write_faults store.old }
 {
     let options = Options { budget, classes };
-    match open(alloc, place, false, store) {
+    match open_project(alloc, place, false, store) {
         Ok(opened) => of_opened(alloc, place, options, store, opened),
         Err(status) => Err(status),
     }
@@ -72,7 +72,7 @@ fn of_opened<S: Store>(
         project,
         manifest,
     } = opened;
-    match edit(alloc, Command::Resolve, place, &catalog, project, manifest) {
+    match edit_project(alloc, Command::Resolve, place, &catalog, project, manifest) {
         Ok(edited) => of_demand(alloc, options, store, &catalog, &edited.demand),
         Err(status) => Err(status),
     }
@@ -95,7 +95,7 @@ fn of_demand<S: Store>(
     ensures other { S.write_faults store.new ≡ S.write_faults store.old }
 {
     found_is_due();
-    match book_of(alloc, store, catalog, demand, &Ids::make(alloc)) {
+    match gather_book(alloc, store, catalog, demand, &Ids::make(alloc)) {
         Ok(book) => of_book(alloc, options, catalog, demand, book),
         Err(status) => Err(status),
     }

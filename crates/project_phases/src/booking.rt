@@ -14,7 +14,7 @@ use std::alloc::Global;
 ///
 /// Refusals, of which the first that is due comes: MissingFile and BadFile of the tables of the packages that are reached;
 /// UnknownPackage; Limit of packages. ReadFault comes where the store fails, and want of memory is free.
-pub fn book_of<S: Store>(
+pub fn gather_book<S: Store>(
     alloc: Global,
     store: &mut S,
     catalog: &Catalog,

@@ -17,7 +17,7 @@ use std::alloc::Global;
 /// The project after a command's edit, and its demand. The project, the manifest and the place are those of the catalog.
 ///
 /// Refusals, of which the first that is due comes: WrongJulia; NeedsFetch. Want of memory is free.
-pub fn edit(
+pub fn edit_project(
     alloc: Global,
     command: Command,
     place: &Place,

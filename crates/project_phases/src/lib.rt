@@ -6,6 +6,6 @@ mod editing;
 mod opening;
 mod refusals;
 
-pub use booking::book_of;
-pub use editing::edit;
-pub use opening::{Opened, open};
+pub use booking::gather_book;
+pub use editing::edit_project;
+pub use opening::{Opened, open_project};

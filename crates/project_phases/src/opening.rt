@@ -27,7 +27,7 @@ pub struct Opened {
 ///
 /// Refusals, of which the first that is due comes: MissingFile and BadFile of the project file, the manifest, and the files
 /// of the catalog. ReadFault comes where the store fails, and want of memory is free.
-pub fn open<S: Store>(
+pub fn open_project<S: Store>(
     alloc: Global,
     place: &Place,
     needed: bool,

@@ -3,7 +3,7 @@ use Rattle.offer_terms.specs.Demanded.{wanted}
 use Rattle.offer_book.specs.Scope.{scope}
 use Rattle.offer_book.specs.Gathered.{gathered}
 use Rattle.project_phases.proofs.RefusalLemmas.{book_refuses}
-use Rattle.project_phases.proofs.booking.book_of.Goals as goal
+use Rattle.project_phases.proofs.booking.gather_book.Goals as goal
 
 pub returns-in-Err-clause-told : goal.returns-in-Err-clause-told
 returns-in-Err-clause-told g c =
