@@ -83,7 +83,7 @@ ending_best files place budget classes e due = best_of files place budget classe
 not_early : (files : Files) (place : Place) (refusal status : Status) → posed_in files place ≡ Err refusal → refusal ≡ status → IsEarly status
 not_early files place refusal status is same =
     let early : IfErr (posed_in files place) IsEarly = posed_early files place in
-    let here : IfErr (Err {A = Posed} refusal) IsEarly = subst (λ r. IfErr r IsEarly) is early in
+    let here : IsEarly refusal = subst (λ r. IfErr r IsEarly) is early in
     subst IsEarly same here
 
 none_of : (files : Files) (place : Place) (budget : ℕ) (classes : Bool) (log : Listing Node) (posed : Result Posed Status) → posed_in files place ≡ posed
