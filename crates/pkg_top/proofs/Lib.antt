@@ -1,1 +1,4 @@
-pub mod Depots
+
+mod LeftLemmas
+mod OtherLemmas
+mod PlainLemmas
