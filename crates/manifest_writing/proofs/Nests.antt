@@ -7,7 +7,7 @@ use Rattle.toml.specs.Data.{Data, string, array, table, Members, depth, items_de
 use Rattle.toml.specs.View.{items_of}
 use Rattle.toml_view.specs.Document.{nesting, nesting_limit}
 use Rattle.manifest_file.specs.Saying.{SaidStanza, Said}
-use Rattle.manifest_file.specs.Written.{Puts, members_opt, are_listable, names_data, id_put, ids_data, unless_empty, dependencies_data, triggers_put, extensions_data, flag_data, tree_data, path_data, url_data, rev_data, subdir_data, version_data, uuid_data, stanza_puts, stanza_data, grouped, group_data, group_put, stanzas_data, bearers_among, written}
+use Rattle.manifest_file.specs.Written.{Puts, members_opt, are_listable, names_data, id_put, ids_data, dependencies_data, triggers_put, extensions_data, flag_data, tree_data, path_data, url_data, rev_data, subdir_data, version_data, stanza_puts, stanza_data, grouped, group_data, group_put, stanzas_data, bearers_among, written}
 use Rattle.manifest_file.specs.declared.origin.Origin.{Origin}
 use Rattle.manifest_file.specs.declared.origin.Origin.TheVariants.{Tree, Path, Repo, Std}
 
