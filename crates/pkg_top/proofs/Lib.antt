@@ -1,4 +1,3 @@
-
 mod LeftLemmas
 mod OtherLemmas
 mod PlainLemmas

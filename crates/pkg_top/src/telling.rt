@@ -8,7 +8,12 @@ use pkg_world::{PutAnswer, Sink};
 use std::alloc::Global;
 
 /// Prints the line of Ok.
-pub(crate) fn print<O: Sink, E: Sink>(alloc: Global, line: &String, out: &mut O, err: &mut E) -> Ended
+pub(crate) fn print<O: Sink, E: Sink>(
+    alloc: Global,
+    line: &String,
+    out: &mut O,
+    err: &mut E,
+) -> Ended
     ensures printed { IsPrinted (string_bytes line.now) (O.text out.old) (O.text out.new) result.status }
     ensures told { Tells (E.text err.old) (E.text err.new) (E.faults err.old) (E.faults err.new) result.status result.told }
     ensures sink_fault { SinkFaultRose (O.faults out.old) (O.faults out.new) result.status }
