@@ -2,15 +2,14 @@
 use Rattle.std.proofs.Common.{◌≡◌, ℕ, ◌+◌, ◌≤◌, ◌&&◌, Bool, true, false, cond, List, [], ◌∷◌, map, codes, Option, Some, None, option_map, refl, arith, lit≤}
 use Rattle.std.specs.List.{AllByRecursion}
 use Rattle.std.proofs.Math.Nat.{max-le}
+use Rattle.jl_versions.specs.declared.version.Version.{Version}
 use Rattle.toml.specs.Data.{Data, string, array, table, Members, depth, items_depth, members_depth, has_valid_dates, items_have_valid_dates, members_have_valid_dates}
 use Rattle.toml.specs.View.{items_of}
 use Rattle.toml_view.specs.Document.{nesting, nesting_limit}
 use Rattle.manifest_file.specs.Saying.{SaidStanza, Said}
 use Rattle.manifest_file.specs.Written.{Puts, members_opt, are_listable, names_data, id_put, ids_data, unless_empty, dependencies_data, triggers_put, extensions_data, flag_data, tree_data, path_data, url_data, rev_data, subdir_data, version_data, uuid_data, stanza_puts, stanza_data, grouped, group_data, group_put, stanzas_data, bearers_among, written}
-use Rattle.manifest_file.specs.declared.bearers.Bearers.{Bearers}
 use Rattle.manifest_file.specs.declared.origin.Origin.{Origin}
 use Rattle.manifest_file.specs.declared.origin.Origin.TheVariants.{Tree, Path, Repo, Std}
-use Rattle.jl_versions.specs.declared.version.Version.{Version}
 
 -- a value that nests so deep at most, without a date
 record IsPlain (n : ℕ) (d : Data) : Type 0 where
@@ -82,11 +81,11 @@ ids_plain ids = table_plain 0 (map id_put ids) (all_mapped (λ (p : List ℕ × 
 deeper : (m n : ℕ) (d : Data) → m ≤ n → IsPlain m d → IsPlain n d
 deeper m n d le plain = record { deep = let deep : depth d ≤ m = plain.deep in omega (arith, deep, le); dated = plain.dated }
 
-dependencies_plain : (bearers : List ℕ → Bearers) (ids : List (List ℕ × List ℕ)) → ArePlain 2 (dependencies_data bearers ids)
-dependencies_plain bearers [] = tt
-dependencies_plain bearers (pair ∷ more) =
+dependencies_plain : (among : List SaidStanza) (ids : List (List ℕ × List ℕ)) → ArePlain 2 (dependencies_data (bearers_among among) ids)
+dependencies_plain among [] = tt
+dependencies_plain among (pair ∷ more) =
     let ids = pair ∷ more in
-    elim (are_listable bearers ids) as (λ b. IsPlain 2 (cond b (names_data (map (λ pair. pair.0) ids)) (ids_data ids))) [
+    elim (are_listable (bearers_among among) ids) as (λ b. IsPlain 2 (cond b (names_data (map (λ pair. pair.0) ids)) (ids_data ids))) [
       | true ↦ deeper 1 2 _ (lit≤ tt) (names_plain (map (λ pair. pair.0) ids))
       | false ↦ deeper 1 2 _ (lit≤ tt) (ids_plain ids)
     ]
@@ -132,22 +131,41 @@ subdir_plain n Std = tt
 
 -- ---- a stanza, those of a name, and all
 
-stanza_plain : (bearers : List ℕ → Bearers) (t : SaidStanza) → IsPlain 3 (stanza_data bearers t)
-stanza_plain bearers t =
-    table_plain 2 (stanza_puts bearers t) (
-    dependencies_plain bearers t.deps, (extensions_plain t.extensions, (tree_plain 2 t.origin, (path_plain 2 t.origin, (flag_plain 2 t.pinned, (rev_plain 2 t.origin,
-    (subdir_plain 2 t.origin, (url_plain 2 t.origin, (record { deep = omega arith; dated = refl }, (version_plain 2 t.version, (dependencies_plain bearers t.weakdeps, tt)))))))))))
+stanza_plain : (among : List SaidStanza) (t : SaidStanza) → IsPlain 3 (stanza_data (bearers_among among) t)
+stanza_plain among t =
+    table_plain 2 (stanza_puts (bearers_among among) t) (
+      dependencies_plain among t.deps,
+      (
+        extensions_plain t.extensions,
+        (
+          tree_plain 2 t.origin,
+          (
+            path_plain 2 t.origin,
+            (
+              flag_plain 2 t.pinned,
+              (
+                rev_plain 2 t.origin,
+                (subdir_plain 2 t.origin, (url_plain 2 t.origin, (record { deep = omega arith; dated = refl }, (version_plain 2 t.version, (dependencies_plain among t.weakdeps, tt))))),
+              ),
+            ),
+          ),
+        ),
+      ),
+    )
 
-group_plain : (bearers : List ℕ → Bearers) (stanzas : List SaidStanza) → IsPlain 4 (group_data bearers stanzas)
-group_plain bearers stanzas = array_plain 3 (map (stanza_data bearers) stanzas) (all_mapped (IsPlain 3) (stanza_data bearers) (stanza_plain bearers) stanzas)
+group_plain : (among : List SaidStanza) (stanzas : List SaidStanza) → IsPlain 4 (group_data (bearers_among among) stanzas)
+group_plain among stanzas = array_plain 3 (map (stanza_data (bearers_among among)) stanzas) (all_mapped (IsPlain 3) (stanza_data (bearers_among among)) (stanza_plain among) stanzas)
 
-stanzas_plain : (bearers : List ℕ → Bearers) (stanzas : List SaidStanza) → IsPlain 5 (stanzas_data bearers stanzas)
-stanzas_plain bearers stanzas =
-    table_plain 4 (map (group_put bearers) (grouped stanzas)) (all_mapped (λ (p : List ℕ × Option Data). ArePlain 4 p.1) (group_put bearers) (λ group. group_plain bearers group.1) (grouped stanzas))
+stanzas_plain : (among : List SaidStanza) (stanzas : List SaidStanza) → IsPlain 5 (stanzas_data (bearers_among among) stanzas)
+stanzas_plain among stanzas =
+    table_plain 4 (map (group_put (bearers_among among)) (grouped stanzas)) (all_mapped (λ (p : List ℕ × Option Data). ArePlain 4 p.1) (group_put (bearers_among among)) (λ group. group_plain among group.1) (grouped stanzas))
 
 written_plain : (m : Said) → HasPlain 5 (written m)
 written_plain m =
-    members_plain 5 _ (stanzas_plain (bearers_among m.stanzas) m.stanzas, (version_plain 5 m.julia_version, (text_plain 5 (codes "2.0"), tt)))
+    let puts : Puts =
+    (codes "deps", Some (stanzas_data (bearers_among m.stanzas) m.stanzas)) ∷ (codes "julia_version", option_map version_data m.julia_version)
+    ∷ (codes "manifest_format", Some (string (codes "2.0"))) ∷ [] in
+    members_plain 5 puts (stanzas_plain m.stanzas m.stanzas, (version_plain 5 m.julia_version, (text_plain 5 (codes "2.0"), tt)))
 
 -- the table of a manifest is one that can be printed
 pub written_nests : (m : Said) → nesting (written m) ≤ nesting_limit
