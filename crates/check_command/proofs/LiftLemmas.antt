@@ -26,7 +26,7 @@ use Rattle.check_command.specs.Answered.{AnswersBy, AnswersOn}
 answers_as : (One Other : Result (List ℕ) Status → Type 0) → ((answer : Result (List ℕ) Status) → One answer → Other answer) → (answer : Result (String Global) Status)
     → AnswersBy One answer → AnswersBy Other answer
 answers_as One Other is (Ok text) h = is (Ok (string_bytes text)) h
-answers_as One Other is (Err status) h = refuses_as One Other is status h
+answers_as One Other is (Err status) h = refuses_as One Other (λ refusal. is (Err refusal)) status h
 
 module _ (valid_law : ValidAlike) (raised_law : RaisedAlike) (files : Files) (catalog : SaidCatalog) (w : Wanted) (s : Selected) (extra : List Id) (book : List Packed)
     (gathers : gathered files catalog (scope w) extra ≡ Ok book) where

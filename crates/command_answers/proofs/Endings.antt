@@ -79,27 +79,28 @@ unprinted_sink before now Memory h = tt
 unprinted_sink before now SinkFault h = absurd h
 
 -- a refusal that is due by one relation is due by another
-pub refuses_as : {T : Type 0} (One Other : Result T Status → Type 0) → ((answer : Result T Status) → One answer → Other answer) → (status : Status) → RefusesBy One status → RefusesBy Other status
+pub refuses_as : {S T : Type 0} (One : Result S Status → Type 0) (Other : Result T Status → Type 0) → ((status : Status) → One (Err status) → Other (Err status))
+    → (status : Status) → RefusesBy One status → RefusesBy Other status
 refuses_as One Other is StatusOk h = h
-refuses_as One Other is (BadWords word) h = is (Err (BadWords word)) h
-refuses_as One Other is (MissingFile path) h = is (Err (MissingFile path)) h
-refuses_as One Other is (BadFile path cause) h = is (Err (BadFile path cause)) h
-refuses_as One Other is (NeedsFetch name) h = is (Err (NeedsFetch name)) h
-refuses_as One Other is (NoIdentity name) h = is (Err (NoIdentity name)) h
-refuses_as One Other is (NoSource uuid) h = is (Err (NoSource uuid)) h
-refuses_as One Other is (Unsatisfiable log) h = is (Err (Unsatisfiable log)) h
-refuses_as One Other is (GaveUp log) h = is (Err (GaveUp log)) h
+refuses_as One Other is (BadWords word) h = is (BadWords word) h
+refuses_as One Other is (MissingFile path) h = is (MissingFile path) h
+refuses_as One Other is (BadFile path cause) h = is (BadFile path cause) h
+refuses_as One Other is (NeedsFetch name) h = is (NeedsFetch name) h
+refuses_as One Other is (NoIdentity name) h = is (NoIdentity name) h
+refuses_as One Other is (NoSource uuid) h = is (NoSource uuid) h
+refuses_as One Other is (Unsatisfiable log) h = is (Unsatisfiable log) h
+refuses_as One Other is (GaveUp log) h = is (GaveUp log) h
 refuses_as One Other is (ReadFault path) h = tt
 refuses_as One Other is (WriteFault path) h = h
 refuses_as One Other is (Blocked path) h = h
-refuses_as One Other is (UnknownName name) h = is (Err (UnknownName name)) h
-refuses_as One Other is (UnknownPackage uuid) h = is (Err (UnknownPackage uuid)) h
-refuses_as One Other is (AmbiguousName first second) h = is (Err (AmbiguousName first second)) h
-refuses_as One Other is (Limit kind count) h = is (Err (Limit kind count)) h
-refuses_as One Other is (Differs difference) h = is (Err (Differs difference)) h
-refuses_as One Other is (NotInManifest name) h = is (Err (NotInManifest name)) h
-refuses_as One Other is (WrongJulia text) h = is (Err (WrongJulia text)) h
-refuses_as One Other is (NotBuilt word) h = is (Err (NotBuilt word)) h
+refuses_as One Other is (UnknownName name) h = is (UnknownName name) h
+refuses_as One Other is (UnknownPackage uuid) h = is (UnknownPackage uuid) h
+refuses_as One Other is (AmbiguousName first second) h = is (AmbiguousName first second) h
+refuses_as One Other is (Limit kind count) h = is (Limit kind count) h
+refuses_as One Other is (Differs difference) h = is (Differs difference) h
+refuses_as One Other is (NotInManifest name) h = is (NotInManifest name) h
+refuses_as One Other is (WrongJulia text) h = is (WrongJulia text) h
+refuses_as One Other is (NotBuilt word) h = is (NotBuilt word) h
 refuses_as One Other is Memory h = tt
 refuses_as One Other is SinkFault h = h
 
@@ -107,4 +108,4 @@ refuses_as One Other is SinkFault h = h
 pub ends_as : (One Other : Result SaidEnding Status → Type 0) → ((answer : Result SaidEnding Status) → One answer → Other answer) → (answer : Result Ending Status)
     → EndsBy One answer → EndsBy Other answer
 ends_as One Other is (Ok it) h = is (Ok (said_ending it)) h
-ends_as One Other is (Err status) h = refuses_as One Other is status h
+ends_as One Other is (Err status) h = refuses_as One Other (λ refusal. is (Err refusal)) status h
