@@ -11,45 +11,15 @@ use Rattle.offer_book.specs.Scope.{scope}
 use Rattle.offer_book.specs.AllOffers.{all_offers}
 use Rattle.offer_book.specs.Gathered.{BookRefusal, unusable, unknown, too_many, gathered}
 use Rattle.book_graph.specs.StandsFor.{IsBook}
+use Rattle.command_answers.proofs.Endings.{refuses_as, ends_as}
 use Rattle.command_answers.specs.Answers.{Refuses}
-use Rattle.command_answers.specs.Endings.{SaidEnding, said_ending, RefusesBy, EndsBy}
+use Rattle.command_answers.specs.Endings.{RefusesBy, EndsBy}
 use Rattle.command_answers.specs.declared.ending.Ending.{Ending}
 use Rattle.command_answers.specs.declared.status.Status.{Status}
-use Rattle.command_answers.specs.declared.status.Status.TheVariants.{Ok as StatusOk, BadWords, MissingFile, BadFile, NeedsFetch, NoIdentity, NoSource, Unsatisfiable, GaveUp, ReadFault, WriteFault, Blocked, UnknownName, UnknownPackage, AmbiguousName, Limit, Differs, NotInManifest, WrongJulia, NotBuilt, Memory, SinkFault}
 use Rattle.project_phases.specs.Refusals.{told_book}
 use Rattle.project_phases.specs.Phases.{booked_in}
 use Rattle.edit_commands.specs.Laws.{FoundIsDue}
 use Rattle.edit_commands.specs.ResolveDue.{Posed, question_of, with_demand, IsFound, IsAnswerTo, IsAnswerOn}
-
-refuses_as : (One Other : Result SaidEnding Status → Type 0) → ((answer : Result SaidEnding Status) → One answer → Other answer) → (status : Status) → RefusesBy One status → RefusesBy Other status
-refuses_as One Other is StatusOk h = h
-refuses_as One Other is (BadWords word) h = is (Err (BadWords word)) h
-refuses_as One Other is (MissingFile path) h = is (Err (MissingFile path)) h
-refuses_as One Other is (BadFile path cause) h = is (Err (BadFile path cause)) h
-refuses_as One Other is (NeedsFetch name) h = is (Err (NeedsFetch name)) h
-refuses_as One Other is (NoIdentity name) h = is (Err (NoIdentity name)) h
-refuses_as One Other is (NoSource uuid) h = is (Err (NoSource uuid)) h
-refuses_as One Other is (Unsatisfiable log) h = is (Err (Unsatisfiable log)) h
-refuses_as One Other is (GaveUp log) h = is (Err (GaveUp log)) h
-refuses_as One Other is (ReadFault path) h = tt
-refuses_as One Other is (WriteFault path) h = h
-refuses_as One Other is (Blocked path) h = h
-refuses_as One Other is (UnknownName name) h = is (Err (UnknownName name)) h
-refuses_as One Other is (UnknownPackage uuid) h = is (Err (UnknownPackage uuid)) h
-refuses_as One Other is (AmbiguousName first second) h = is (Err (AmbiguousName first second)) h
-refuses_as One Other is (Limit kind count) h = is (Err (Limit kind count)) h
-refuses_as One Other is (Differs difference) h = is (Err (Differs difference)) h
-refuses_as One Other is (NotInManifest name) h = is (Err (NotInManifest name)) h
-refuses_as One Other is (WrongJulia text) h = is (Err (WrongJulia text)) h
-refuses_as One Other is (NotBuilt word) h = is (Err (NotBuilt word)) h
-refuses_as One Other is Memory h = tt
-refuses_as One Other is SinkFault h = h
-
--- an ending that is due by one relation is due by another
-ends_as : (One Other : Result SaidEnding Status → Type 0) → ((answer : Result SaidEnding Status) → One answer → Other answer) → (answer : Result Ending Status)
-    → EndsBy One answer → EndsBy Other answer
-ends_as One Other is (Ok ending) h = is (Ok (said_ending ending)) h
-ends_as One Other is (Err status) h = refuses_as One Other is status h
 
 -- what an equal refusal ends with
 ends : {T : Type 0} (phase : Result T Status) (next : T → Result Posed Status) (budget : ℕ) (classes : Bool) (refusal : Status) → phase ≡ Err refusal
@@ -58,28 +28,8 @@ ends phase next budget classes refusal same = subst (λ r. IsAnswerOn (then_ok r
 
 phase_ends : {T : Type 0} (phase : Result T Status) (next : T → Result Posed Status) (budget : ℕ) (classes : Bool) (status : Status) → Refuses phase status
     → RefusesBy (IsAnswerOn (then_ok phase next) budget classes) status
-phase_ends phase next budget classes StatusOk h = h
-phase_ends phase next budget classes (BadWords word) h = ends phase next budget classes (BadWords word) h
-phase_ends phase next budget classes (MissingFile path) h = ends phase next budget classes (MissingFile path) h
-phase_ends phase next budget classes (BadFile path cause) h = ends phase next budget classes (BadFile path cause) h
-phase_ends phase next budget classes (NeedsFetch name) h = ends phase next budget classes (NeedsFetch name) h
-phase_ends phase next budget classes (NoIdentity name) h = ends phase next budget classes (NoIdentity name) h
-phase_ends phase next budget classes (NoSource uuid) h = ends phase next budget classes (NoSource uuid) h
-phase_ends phase next budget classes (Unsatisfiable log) h = ends phase next budget classes (Unsatisfiable log) h
-phase_ends phase next budget classes (GaveUp log) h = ends phase next budget classes (GaveUp log) h
-phase_ends phase next budget classes (ReadFault path) h = tt
-phase_ends phase next budget classes (WriteFault path) h = h
-phase_ends phase next budget classes (Blocked path) h = h
-phase_ends phase next budget classes (UnknownName name) h = ends phase next budget classes (UnknownName name) h
-phase_ends phase next budget classes (UnknownPackage uuid) h = ends phase next budget classes (UnknownPackage uuid) h
-phase_ends phase next budget classes (AmbiguousName first second) h = ends phase next budget classes (AmbiguousName first second) h
-phase_ends phase next budget classes (Limit kind count) h = ends phase next budget classes (Limit kind count) h
-phase_ends phase next budget classes (Differs difference) h = ends phase next budget classes (Differs difference) h
-phase_ends phase next budget classes (NotInManifest name) h = ends phase next budget classes (NotInManifest name) h
-phase_ends phase next budget classes (WrongJulia text) h = ends phase next budget classes (WrongJulia text) h
-phase_ends phase next budget classes (NotBuilt word) h = ends phase next budget classes (NotBuilt word) h
-phase_ends phase next budget classes Memory h = tt
-phase_ends phase next budget classes SinkFault h = h
+phase_ends phase next budget classes status h =
+    refuses_as (λ answer. phase ≡ answer) (IsAnswerOn (then_ok phase next) budget classes) (λ refusal same. ends phase next budget classes refusal same) status h
 
 -- a phase that is refused ends the command so
 pub phase_refuses : {T : Type 0} (told : Option Files) (phase : Files → Result T Status) (next : Files → T → Result Posed Status) (budget : ℕ) (classes : Bool) (status : Status)
