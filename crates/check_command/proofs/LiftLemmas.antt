@@ -46,12 +46,15 @@ module _ (valid_law : ValidAlike) (raised_law : RaisedAlike) (files : Files) (ca
       let valid = (valid_law files catalog w extra book s gathers).0 good.valid in
       (fits, record { valid = valid; raise = good.raise; raises = raises valid good.raise good.raises; told = good.told })
   judges (Err status) (inl past) = inl past
-  judges (Err status) (inr (fits, broken)) = inr (fits, record {
-    invalid = λ valid. broken.invalid ((valid_law files catalog w extra book s gathers).1 valid);
-    verdict = broken.verdict;
-    first = broken.first;
-    told = broken.told;
-  })
+  judges (Err status) (inr (fits, broken)) = inr (
+    fits,
+    record {
+      invalid = λ valid. broken.invalid ((valid_law files catalog w extra book s gathers).1 valid);
+      verdict = broken.verdict;
+      first = broken.first;
+      told = broken.told;
+    },
+  )
 
   by_demand : extra ≡ keys_of s → (answer : Result (List ℕ) Status) → IsAnswerOn (with_book (book_offers book) w s book) answer → IsAnswerOn (with_demand files catalog s w) answer
   by_demand same answer h =
