@@ -1,3 +1,4 @@
+pub mod Depots
 mod LeftLemmas
 mod OtherLemmas
 mod PlainLemmas
