@@ -49,7 +49,13 @@ fn class_line(alloc: Global, book: &Book, class: &Class) -> Result<String, Alloc
     let standing = state_text(alloc, offers, class.standing)?;
     let members = members_text(alloc, offers, class.members.items())?;
     let name = book.name(class.package).as_str();
-    words(alloc, name, uuid.as_str(), standing.as_str(), members.as_str())
+    words(
+        alloc,
+        name,
+        uuid.as_str(),
+        standing.as_str(),
+        members.as_str(),
+    )
 }
 
 fn words(
