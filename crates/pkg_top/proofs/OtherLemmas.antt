@@ -1,5 +1,5 @@
 -- Replacing files leaves every path that is not replaced and lies above no file that is.
-use Rattle.std.proofs.Common.{◌≡◌, List, [], ◌∷◌, Option, Some, None, refl, ap, ◌∙◌}
+use Rattle.std.proofs.Common.{◌≡◌, List, [], ◌∷◌, Option, Some, None, refl, ap, ◌∙◌, arith}
 use Rattle.std.specs.Option.{option_map}
 use Rattle.std.specs.List.{AllByRecursion}
 use Rattle.pkg_world.specs.Outside.{written}
@@ -11,13 +11,13 @@ use Rattle.pkg_top.specs.Left.{AreWritten, IsApart, OthersStay}
 use Rattle.pkg_top.proofs.LeftLemmas.{untold_after}
 
 same_files : (one other : Files) → Some one ≡ Some other → one ≡ other
-same_files one other same = grind
+same_files one other same = grind arith
 
 none_is_some : (files : Files) → Some files ≡ None → ⊥
-none_is_some files same = grind
+none_is_some files same = grind arith
 
 placed : (found : Option Files) (mid : Files) → option_map Some found ≡ Some (Some mid) → found ≡ Some mid
-placed found mid same = grind
+placed found mid same = grind arith
 
 pub others : WritingLaw → OthersStay
 others law [] old new other h apart = ap (holds other) (same_files new old h)
