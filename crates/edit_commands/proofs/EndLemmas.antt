@@ -76,7 +76,7 @@ by_book law files catalog w book budget classes books sound answer h =
     let it : Posed = record { offers = all_offers files catalog (scope w); question = q } in
     let here : gathered files catalog (scope w) [] ≡ Ok book = gathers (gathered files catalog (scope w) []) book books in
     let over : EndsBy (IsAnswerTo it budget classes) answer =
-        ends_as (IsFound q budget classes) (IsAnswerTo it budget classes) (λ a found. law files catalog w catalog.home.manifest book budget classes a here sound found) answer h in
+    ends_as (IsFound q budget classes) (IsAnswerTo it budget classes) (λ a found. law files catalog w catalog.home.manifest book budget classes a here sound found) answer h in
     let next = λ (b : List Packed). let r : Result Posed Status = Ok (record { offers = all_offers files catalog (scope w); question = question_of w catalog.home.manifest b }) in r in
     subst (λ r. EndsBy (IsAnswerOn (then_ok r next) budget classes) answer) (sym books) over
 

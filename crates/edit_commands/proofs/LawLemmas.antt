@@ -55,7 +55,7 @@ book_early (Err too_many) = tt
 opened_early : (files : Files) (place : Place) → IfErr (opened_in false files place) IsEarly
 opened_early files place = then_early (told_read (project_files false files place)) (with_files files place) (read_early (project_files false files place))
     (λ it. then_early (told_read (catalogued files place it.home it.project it.manifest)) (λ catalog. let r : Result Opened Status = Ok (with_catalog it catalog) in r)
-        (read_early (catalogued files place it.home it.project it.manifest)) (λ catalog. tt))
+    (read_early (catalogued files place it.home it.project it.manifest)) (λ catalog. tt))
 
 demand_early : (files : Files) (catalog : SaidCatalog) (w : Wanted) → IfErr (with_demand files catalog w) IsEarly
 demand_early files catalog w =
