@@ -1,9 +1,9 @@
 -- Numbers that pass with their values: one more, a sort, and the first that is allowed.
-use Rattle.std.proofs.Common.{◌≡◌, ℕ, ◌+◌, ◌<◌, ◌≤◌, Bool, true, false, ◌&&◌, not, List, [], ◌∷◌, ◌++◌, length, get_or, refl, sym, ◌∙◌, subst, ap, arith, inl, inr}
+use Rattle.std.proofs.Common.{◌≡◌, ℕ, ◌+◌, ◌-◌, ◌<◌, ◌≤◌, Bool, true, false, ◌&&◌, not, List, [], ◌∷◌, ◌++◌, length, get_or, refl, sym, ◌∙◌, subst, ap, arith, inl, inr}
 use Rattle.std.proofs.lemmas.Bool.{cases_lt}
 use Rattle.std.proofs.lemmas.List.Elements.{All-nil, All-push}
 use Rattle.std.proofs.lemmas.List.Sorted.{All-permutation, Contains-permutation, sorted_far, ranks_by}
-use Rattle.std.proofs.lemmas.List.{length-append, get_or_append_left}
+use Rattle.std.proofs.lemmas.List.{length-append, get_or_append_left, get_or_default}
 use Rattle.std.proofs.Math.Seq.{get_or-append_seam}
 use Rattle.std.specs.List.{All, Contains}
 use Rattle.std.specs.List.Sorted.{IsPermutation, IsSorted}
@@ -61,6 +61,14 @@ both-second : (a b : Bool) → (a && b) ≡ true → b ≡ true
 both-second true b e = e
 both-second false b e = cc
 
+pub turned-true : (a b : Bool) → a ≡ not b → a ≡ true → b ≡ false
+turned-true a true e t = cc
+turned-true a false e t = refl
+
+pub turned-false : (a b : Bool) → a ≡ not b → a ≡ false → b ≡ true
+turned-false a true e f = refl
+turned-false a false e f = cc
+
 allowed-not : (b : Bool) → not b ≡ true → b ≡ true → ⊥
 allowed-not true e h = cc
 allowed-not false e h = cc
@@ -70,10 +78,13 @@ module _ {W : Type 0} (xs : List (W × ℕ)) (forbidden : ℕ → Bool) where
   abbrev pub AreBarred : ℕ → Type 0
   AreBarred low = (l : ℕ) (d : W × ℕ) → low ≤ l → l < length xs → forbidden (get_or xs l d).1 ≡ true
 
-  pub barred-more : (low : ℕ) → low + 1 ≤ length xs → ((d : W × ℕ) → forbidden (get_or xs low d).1 ≡ true) → AreBarred (low + 1) → AreBarred low
-  barred-more low inside here rest l d h k = elim (cases_lt low l) [
-    | inl above ↦ rest l d (omega (arith, above)) k
-    | inr below ↦ let same : low ≡ l = omega (arith, h, below) in subst (λ n. forbidden (get_or xs n d).1 ≡ true) same (here d)
+  pub barred-more : (k : ℕ) (d : W × ℕ) → k < length xs → forbidden (get_or xs (length xs - 1 - k) d).1 ≡ true → AreBarred (length xs - k) → AreBarred (length xs - (k + 1))
+  barred-more k d inside here rest l e h m = elim (cases_lt l (length xs - k)) [
+    | inl below ↦
+        let same : length xs - 1 - k ≡ l = omega (arith, inside, h, below) in
+        subst (λ n. forbidden (get_or xs n e).1 ≡ true) same
+        (ap (λ (y : W × ℕ). forbidden y.1) (get_or_default xs (length xs - 1 - k) e d (omega (arith, inside))) ∙ here)
+    | inr above ↦ rest l e above m
   ]
 
 module _ {W : Type 0} (cmp : W → W → Ordering) (total : IsTotalOrder cmp) where
@@ -89,31 +100,35 @@ module _ {W : Type 0} (cmp : W → W → Ordering) (total : IsTotalOrder cmp) wh
       by_answer Greater h e = ap is_gt e
 
   module _ (xs : List (W × ℕ)) (forbidden : ℕ → Bool) (test : ℕ → Bool) (value : ℕ → W) (o : AreWeighed test value xs) where
-    pub first-allowed : IsSorted (by_weight cmp) xs → (m : ℕ) (x : W × ℕ) → m < length xs → ((d : W × ℕ) → x ≡ get_or xs m d) → forbidden x.1 ≡ false → AreBarred xs forbidden (m + 1) →
-        IsGreatest cmp (λ i. test i && not (forbidden i)) value x.0
-    first-allowed sorted m x h e allowed barred =
-        let here = subst (λ (y : W × ℕ). (test y.1 ≡ true) × (y.0 ≡ value y.1)) (sym (e x)) (o.each m x h) in
+    pub first-allowed : IsSorted (by_weight cmp) xs → (k : ℕ) (d e : W × ℕ) → k < length xs → forbidden (get_or xs (length xs - 1 - k) e).1 ≡ false → AreBarred xs forbidden (length xs - k) →
+        IsGreatest cmp (λ i. test i && not (forbidden i)) value (get_or xs (length xs - 1 - k) d).0
+    first-allowed sorted k d e h allowed barred =
+        let place = length xs - 1 - k in
+        let inside : place < length xs = omega (arith, h) in
+        let x = get_or xs place d in
+        let same : (c : W × ℕ) → get_or xs place d ≡ get_or xs place c = λ c. get_or_default xs place d c inside in
+        let here = o.each place d inside in
         record {
           place = x.1;
-          passes = rw (here.0, allowed) refl;
+          passes = rw (here.0, ap (λ (y : W × ℕ). forbidden y.1) (same e) ∙ allowed) refl;
           here = here.1;
           most = λ i t.
               let there = o.whole i (both-first (test i) _ t) in
-              elim (cases_lt m there.0) [
-                | inl above ↦ absurd (allowed-not (forbidden i) (both-second (test i) _ t)
-                    (sym (ap (λ (y : W × ℕ). forbidden y.1) there.2) ∙ barred there.0 (value i, i) (omega (arith, above)) there.1))
-                | inr below ↦ not-higher (value i) x.0 (nat_cmp x.1 i)
-                    (subst (λ (y : W × ℕ). is_lt (by_weight cmp y (value i, i)) ≡ false) (sym (e (value i, i)))
-                    (subst (λ (y : W × ℕ). is_lt (by_weight cmp (get_or xs m (value i, i)) y) ≡ false) there.2
-                    (sorted_far (λ y z. is_lt (by_weight cmp y z)) ranks xs sorted there.0 m (value i, i) (omega (arith, below)) h)))
+              elim (cases_lt there.0 (length xs - k)) [
+                | inl below ↦ not-higher (value i) x.0 (nat_cmp x.1 i)
+                    (subst (λ (y : W × ℕ). is_lt (by_weight cmp y (value i, i)) ≡ false) (sym (same (value i, i)))
+                    (subst (λ (y : W × ℕ). is_lt (by_weight cmp (get_or xs place (value i, i)) y) ≡ false) there.2
+                    (sorted_far (λ y z. is_lt (by_weight cmp y z)) ranks xs sorted there.0 place (value i, i) (omega (arith, below, h)) inside)))
+                | inr above ↦ absurd (allowed-not (forbidden i) (both-second (test i) _ t)
+                    (sym (ap (λ (y : W × ℕ). forbidden y.1) there.2) ∙ barred there.0 (value i, i) above there.1))
               ];
         }
 
-    pub none-allowed : AreBarred xs forbidden 0 → (i : ℕ) → (test i && not (forbidden i)) ≡ true → ⊥
-    none-allowed barred i t = by_both (test i) refl t
+    pub none-allowed : (k : ℕ) → length xs ≤ k → AreBarred xs forbidden (length xs - k) → (i : ℕ) → (test i && not (forbidden i)) ≡ true → ⊥
+    none-allowed k h barred i t = by_both (test i) refl t
       where
         by_both : (b : Bool) → test i ≡ b → (b && not (forbidden i)) ≡ true → ⊥
         by_both true e u =
             let there = o.whole i e in
-            allowed-not (forbidden i) u (sym (ap (λ (y : W × ℕ). forbidden y.1) there.2) ∙ barred there.0 (value i, i) (omega arith) there.1)
+            allowed-not (forbidden i) u (sym (ap (λ (y : W × ℕ). forbidden y.1) there.2) ∙ barred there.0 (value i, i) (omega (arith, h)) there.1)
         by_both false e u = cc
