@@ -52,6 +52,13 @@ def timed(program, *words):
     return seconds, int(ended.stderr.split()[-1]), ended.stdout.strip()
 
 
+def instructions(program, *words):
+    """How many instructions a run takes, as `valgrind --tool=callgrind` counts them."""
+    command = ["valgrind", "--tool=callgrind", "--callgrind-out-file=/dev/null", program, *(str(it) for it in words)]
+    ended = subprocess.run(command, capture_output=True, text=True, check=True)
+    return int(re.search(r"Collected : (\d+)", ended.stderr)[1])
+
+
 def quickest(program, *words):
     """The quickest of three runs, as `timed` tells it."""
     return min(timed(program, *words) for _ in range(3))

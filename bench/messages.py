@@ -2,12 +2,12 @@
 """Times rounds of messages beside one read of each pair's bit a round.
 
 Makes a program in a temporary folder that stands on copies of this repository's crates, builds it with `rt`,
-runs it, and prints one line for each measurement. Needs `rt` on the path and `/usr/bin/time`. Usage: bench/messages.py
+runs it, and prints one line for each measurement. Needs `rt` and `valgrind` on the path and `/usr/bin/time`. Usage: bench/messages.py
 """
 import shutil
 import tempfile
 
-from built import built, quickest
+from built import built, instructions, quickest
 from nets import generated, nets
 from weighing import weighing
 
@@ -260,8 +260,9 @@ def tell(program, title, times, packages, states, roots, codes=()):
     said, _, chosen = quickest(program, 8 * times, 0, *world)
     read, _, allowed = quickest(program, 0, 8 * times, *world)
     rounds, reads = (said - made) / times, (read - made) / times
+    counted = instructions(program, 8, 0, *world) - instructions(program, 0, 0, *world)
     print(
-        f"{title}: 8 rounds in {rounds * 1e3:.2f} ms, each pair read 8 times in {reads * 1e3:.2f} ms, "
+        f"{title}: 8 rounds in {rounds * 1e3:.2f} ms and {counted / 1e6:.1f} million instructions, each pair read 8 times in {reads * 1e3:.2f} ms, "
         f"{reads / rounds:.2f} of it; {int(allowed.split()[-1]) // (8 * times)} allowed pairs, chosen {chosen.split()[0]}"
     )
 

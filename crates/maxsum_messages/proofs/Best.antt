@@ -10,7 +10,7 @@ use Rattle.std.specs.declared.cmp.Ordering.{Ordering}
 use Rattle.std.specs.declared.cmp.Ordering.TheVariants.{Less, Equal, Greater}
 use Rattle.std.specs.Cmp.{IsTotalOrder, upto, tied_itself}
 use Rattle.maxsum_messages.specs.Greatest.{IsGreatest}
-use Rattle.maxsum_messages.specs.Searched.{raised, is_higher}
+use Rattle.maxsum_messages.specs.Searched.{raised}
 
 pub not_above : {W : Type 0} (cmp : W → W → Ordering) → IsTotalOrder cmp → (a b : W) → is_gt (cmp a b) ≡ true → is_gt (cmp b a) ≡ false
 not_above cmp total a b h = by_answer (cmp a b) h (total.antisymm b a)
@@ -92,36 +92,6 @@ module _ {W : Type 0} (cmp : W → W → Ordering) (test : ℕ → Bool) (value 
     -- at the end it is the greatest of all
     pub best-end : (n : ℕ) (best : W) → IsGreatestBelow n best → ((i : ℕ) → test i ≡ true → i < n) → IsGreatest cmp test value best
     best-end n best b all = record { place = b.place; passes = b.passes; here = b.here; most = λ i t. b.most i (all i t) t }
-
--- the same from the greatest number down: at the end it is the greatest of all
-pub best-turned : {W : Type 0} (cmp : W → W → Ordering) (test : ℕ → Bool) (value : ℕ → W) (n m : ℕ) (best : W) → n ≤ m →
-    IsGreatestBelow cmp (λ k. test (n - 1 - k)) (λ k. value (n - 1 - k)) m best → ((i : ℕ) → test i ≡ true → i < n) → IsGreatest cmp test value best
-best-turned cmp test value n m best h b all = record {
-  place = n - 1 - b.place;
-  passes = b.passes;
-  here = b.here;
-  most = λ i t. (
-      let known = all i t in
-      let back : n - 1 - (n - 1 - i) ≡ i = omega (arith, known) in
-      subst (λ k. is_gt (cmp (value k) best) ≡ false) back (b.most (n - 1 - i) (omega (arith, known, h)) (ap test back ∙ t)));
-}
-
-pub none-turned : {W : Type 0} (cmp : W → W → Ordering) (test : ℕ → Bool) (value : ℕ → W) (n m : ℕ) → n ≤ m →
-    IsBestBelow cmp (λ k. test (n - 1 - k)) (λ k. value (n - 1 - k)) m None → (i : ℕ) → i < n → test i ≡ true → ⊥
-none-turned cmp test value n m h none i known t =
-    let back : n - 1 - (n - 1 - i) ≡ i = omega (arith, known) in
-    none (n - 1 - i) (omega (arith, known, h)) (ap test back ∙ t)
-
--- ---- a value that is looked at only where it is greater
-
-pub raised-below : {W : Type 0} (cmp : W → W → Ordering) (best : Option W) (value : W) (t : Bool) → is_higher cmp best value ≡ false → best ≡ raised cmp best value t
-raised-below cmp None value t e = cc
-raised-below cmp (Some other) value false e = refl
-raised-below cmp (Some other) value true e = sym (ap (λ b. Some (cond b value other)) e)
-
-pub raised-above : {W : Type 0} (cmp : W → W → Ordering) (best : Option W) (value : W) → is_higher cmp best value ≡ true → Some value ≡ raised cmp best value true
-raised-above cmp None value e = refl
-raised-above cmp (Some other) value e = sym (ap (λ b. Some (cond b value other)) e)
 
 -- a state of a domain is in range
 

@@ -28,15 +28,15 @@ pub record IsKept {W : Type 0} (Small : W → Type 0) (none : W) (plus : W → W
   pub summed : (q i : ℕ) → q < length m.sizes → i < slice_index m.sizes q → field none sums q i ≡ heard none plus i (said_to m q)
   pub small : (q k j : ℕ) → Small (message none m q k j)
 
--- room for what the states of one package weigh, and for what is said to those of another
-pub record HasRoom {W : Type 0} (sizes : List ℕ) (weights raw : List W) : Type 0 where
-  pub room : (p : ℕ) → p < length sizes → slice_index sizes p ≤ length weights
+-- room for the states of one package with what they weigh, and for what is said to those of another
+pub record HasRoom {W : Type 0} (sizes : List ℕ) (room : ℕ) (raw : List W) : Type 0 where
+  pub states : (p : ℕ) → p < length sizes → slice_index sizes p ≤ room
   pub more_room : (p : ℕ) → p < length sizes → slice_index sizes p ≤ length raw
 
 -- the messages that are prepared for the next round
-pub record IsReady {W : Type 0} (m : Post W) (next : List (List (List W))) (weights raw : List W) : Type 0 where
+pub record IsReady {W : Type 0} (m : Post W) (next : List (List (List W))) (room : ℕ) (raw : List W) : Type 0 where
   pub shaped : AreShaped m.sizes m.senders next
-  pub room : HasRoom m.sizes weights raw
+  pub enough : HasRoom m.sizes room raw
 
 -- the place of q in the list, or none where it isn't there
 abbrev pub IsPlaceOf : List ℕ → ℕ → Option ℕ → Type 0

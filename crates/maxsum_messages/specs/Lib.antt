@@ -7,4 +7,5 @@ pub mod Choice
 pub mod Kept
 pub mod Ranking
 pub mod Searched
+pub mod Weighed
 pub mod Laws

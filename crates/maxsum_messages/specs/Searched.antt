@@ -44,8 +44,3 @@ abbrev pub raised : {W : Type 0} → (W → W → Ordering) → Option W → W �
 raised cmp best weight false = best
 raised cmp None weight true = Some weight
 raised cmp (Some other) weight true = Some (if is_gt (cmp weight other) then weight else other)
-
--- whether the value is greater than the best one so far, if there is one
-abbrev pub is_higher : {W : Type 0} → (W → W → Ordering) → Option W → W → Bool
-is_higher cmp None value = true
-is_higher cmp (Some other) value = is_gt (cmp value other)

@@ -12,6 +12,7 @@ mod laws;
 mod messages;
 mod order;
 mod saying;
+mod weighed;
 
 pub use fields::Fields;
 pub use laws::{

@@ -32,13 +32,14 @@ pub struct Messages<W: Weight> {
 
 impl<W: Weight> Model for Messages<W> {
     ghost use Rattle.maxsum_messages.specs.Post.{Post};
+    ghost use Rattle.std.specs.Prelude.{vec_capacity};
     ghost use Rattle.maxsum_messages.specs.Kept.{IsReady};
 
     ghost Value = { Post W };
 
     ghost view = { λ a. a.inbox };
 
-    ghost invariant = { λ a. IsReady a.inbox a.next.items a.desk.weights.items a.desk.raw.items };
+    ghost invariant = { λ a. IsReady a.inbox a.next.items (vec_capacity a.desk.weighed) a.desk.raw.items };
 }
 
 impl<W: Weight> Messages<W> {
@@ -51,9 +52,9 @@ impl<W: Weight> Messages<W> {
         let inbox = Inbox::make(alloc, instance)?;
         let next = inbox.silence(alloc)?;
         let count = greatest_size(inbox.sizes());
-        let weights = zeros(alloc, count)?;
+        let weighed = Vec::with_capacity(alloc, count as usize)?;
         let raw = zeros(alloc, count)?;
-        let desk = Desk { weights, raw };
+        let desk = Desk { weighed, raw };
         Ok(Messages { inbox, next, desk })
     }
 

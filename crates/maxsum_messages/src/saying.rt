@@ -1,5 +1,5 @@
 //! One message of a round.
-ghost use Rattle.std.specs.Prelude.{◌≡◌, ◌≢◌, ◌<◌, ◌≤◌, ◌^◌, ◌&&◌, ◌||◌, ◌==◌, [], ℕ, true, false, not, length, slice_index, slice_index_or, if◌then◌else◌};
+ghost use Rattle.std.specs.Prelude.{◌≡◌, ◌≢◌, ◌<◌, ◌≤◌, ◌^◌, ◌&&◌, ◌||◌, ◌==◌, [], ℕ, true, false, not, length, slice_index, slice_index_or, vec_capacity, if◌then◌else◌};
 ghost use Rattle.version_graph.specs.Graph.{packages, states, is_forbidden};
 ghost use Rattle.version_graph.specs.Domain.{has, size_of, IsFor, row};
 ghost use Rattle.version_graph.specs.Family.{IsStable, IsFilled};
@@ -8,47 +8,24 @@ ghost use Rattle.maxsum_messages.specs.Post.{senders_of, IsPostFor};
 ghost use Rattle.maxsum_messages.specs.Greatest.{IsGreatest};
 ghost use Rattle.maxsum_messages.specs.Round.{weight_for, IsMessage};
 ghost use Rattle.maxsum_messages.specs.Kept.{AreSenders, AreShaped, HasRoom};
+ghost use Rattle.maxsum_messages.specs.Weighed.{AreWeighed, AreRising};
 
 use crate::fields::Fields;
-use crate::greatest::{best_partner, best_state, less};
+use crate::greatest::{best_state, less};
 use crate::grid::Grid;
-use crate::inbox::{Inbox, place_of};
+use crate::inbox::Inbox;
+use crate::weighed::{best_partner, weigh};
 use lex_weights::Weight;
 use version_graph::{Domains, Instance, one_state_is_left};
 
-/// Writes what each state of p weighs for q.
-fn weigh<W: Weight>(
-    inbox: &Inbox<W>,
-    fields: &Fields<W>,
-    p: u32,
-    q: u32,
-    size: u32,
-    weights: &mut Vec<W>,
-)
-    requires known { p < length inbox.now.sizes }
-    requires size { size ≡ slice_index inbox.now.sizes p }
-    requires field_row { p < length fields.now }
-    requires field_places { length (slice_index_or fields.now p []) ≡ size }
-    requires room { size ≤ length weights.old.items }
-    ensures same { length weights.new.items ≡ length weights.old.items }
-    ensures weights { (i : ℕ) → i < size → slice_index_or weights.new.items i W.none ≡ weight_for W.none W.plus fields.now inbox.now q p i }
-    ensures small { (i : ℕ) → i < size → W.is_within (2 ^ 52) (slice_index_or weights.new.items i W.none) }
-{
-    let place = place_of(inbox.senders(p), q);
-    for i in 0..size {
-        weights[i as usize] = inbox.weight(fields, p, i, q, place);
-    }
-}
-
-/// The greatest weight of an allowed partner of the state j in p's domain, or zero for a state outside q's
-/// domain.
+/// The greatest listed weight of an allowed partner of the state j, or zero for a state outside q's domain.
 fn raw_at<W: Weight>(
     instance: &Instance,
     domains: &Domains,
     p: u32,
     q: u32,
     j: u32,
-    weights: &[W],
+    weighed: &[(W, u32)],
 ) -> W
     requires first { p < packages instance.now }
     requires second { q < packages instance.now }
@@ -56,25 +33,24 @@ fn raw_at<W: Weight>(
     requires apart { p ≢ q }
     requires made { IsFor instance.now domains.now }
     requires closed { IsStable instance.now (has domains.now) }
-    requires room { states instance.now p ≤ length weights.now }
-    requires small { (i : ℕ) → i < states instance.now p → W.is_within (2 ^ 52) (slice_index_or weights.now i W.none) }
-    ensures best { has domains.now q j ≡ true → IsGreatest W.cmp (λ i. has domains.now p i && not (is_forbidden instance.now p i q j)) (λ i. slice_index_or weights.now i W.none) result }
+    requires rising { AreRising (W.is_within (2 ^ 52)) W.cmp (states instance.now p) weighed.now }
+    ensures best { has domains.now q j ≡ true → (value : ℕ → W) → AreWeighed (has domains.now p) value weighed.now → IsGreatest W.cmp (λ i. has domains.now p i && not (is_forbidden instance.now p i q j)) value result }
     ensures small { W.is_within (2 ^ 52) result }
 {
     if domains.has(q, j) {
-        best_partner(instance, domains, p, q, j, weights)
+        best_partner(instance, p, q, j, weighed)
     } else {
         W::zero()
     }
 }
 
-/// Writes the greatest weights of allowed partners for each state of q.
+/// Writes the greatest listed weights of allowed partners for each state of q.
 fn gather<W: Weight>(
     instance: &Instance,
     domains: &Domains,
     p: u32,
     q: u32,
-    weights: &[W],
+    weighed: &[(W, u32)],
     raw: &mut Vec<W>,
 )
     requires first { p < packages instance.now }
@@ -82,15 +58,14 @@ fn gather<W: Weight>(
     requires apart { p ≢ q }
     requires made { IsFor instance.now domains.now }
     requires closed { IsStable instance.now (has domains.now) }
-    requires room { states instance.now p ≤ length weights.now }
-    requires small { (i : ℕ) → i < states instance.now p → W.is_within (2 ^ 52) (slice_index_or weights.now i W.none) }
+    requires rising { AreRising (W.is_within (2 ^ 52)) W.cmp (states instance.now p) weighed.now }
     requires raw_room { states instance.now q ≤ length raw.old.items }
     ensures same { length raw.new.items ≡ length raw.old.items }
-    ensures best { (j : ℕ) → has domains.now q j ≡ true → IsGreatest W.cmp (λ i. has domains.now p i && not (is_forbidden instance.now p i q j)) (λ i. slice_index_or weights.now i W.none) (slice_index_or raw.new.items j W.none) }
+    ensures best { (j : ℕ) → has domains.now q j ≡ true → (value : ℕ → W) → AreWeighed (has domains.now p) value weighed.now → IsGreatest W.cmp (λ i. has domains.now p i && not (is_forbidden instance.now p i q j)) value (slice_index_or raw.new.items j W.none) }
     ensures small { (j : ℕ) → j < states instance.now q → W.is_within (2 ^ 52) (slice_index_or raw.new.items j W.none) }
 {
     for j in 0..instance.states(q) {
-        raw[j as usize] = raw_at(instance, domains, p, q, j, weights);
+        raw[j as usize] = raw_at(instance, domains, p, q, j, weighed);
     }
 }
 
@@ -137,10 +112,10 @@ fn lower<W: Weight>(
     }
 }
 
-/// Room for what the states of one package weigh, and for what is said to those of another.
+/// Room for the states of one package with what they weigh, and for what is said to those of another.
 #[derive(Drop)]
 pub(crate) struct Desk<W> {
-    pub(crate) weights: Vec<W>,
+    pub(crate) weighed: Vec<(W, u32)>,
     pub(crate) raw: Vec<W>,
 }
 
@@ -173,11 +148,11 @@ fn say<W: Weight>(
     requires made { IsFor instance.now domains.now }
     requires closed { IsStable instance.now (has domains.now) }
     requires filled { IsFilled instance.now (has domains.now) }
-    requires room { states instance.now p ≤ length desk.old.weights.items }
+    requires room { states instance.now p ≤ vec_capacity desk.old.weighed }
     requires raw_room { states instance.now q ≤ length desk.old.raw.items }
     requires grid_row { k < length grid.old }
     requires grid_places { length (slice_index_or grid.old k []) ≡ states instance.now q }
-    ensures same { length desk.new.weights.items ≡ length desk.old.weights.items }
+    ensures same { vec_capacity desk.old.weighed ≤ vec_capacity desk.new.weighed }
     ensures raw_same { length desk.new.raw.items ≡ length desk.old.raw.items }
     ensures each { length grid.new ≡ length grid.old }
     ensures places { (r : ℕ) → length (slice_index_or grid.new r []) ≡ length (slice_index_or grid.old r []) }
@@ -190,13 +165,13 @@ fn say<W: Weight>(
         grid.clear_row(k);
         return;
     }
-    weigh(inbox, fields, p, q, instance.states(p), &mut desk.weights);
+    weigh(inbox, fields, domains, p, q, &mut desk.weighed);
     gather(
         instance,
         domains,
         p,
         q,
-        desk.weights.as_slice(),
+        desk.weighed.as_slice(),
         &mut desk.raw,
     );
     let size = instance.states(q);
@@ -220,10 +195,10 @@ fn hear<W: Weight>(
     requires made { IsFor instance.now domains.now }
     requires closed { IsStable instance.now (has domains.now) }
     requires filled { IsFilled instance.now (has domains.now) }
-    requires room { HasRoom instance.now.sizes desk.old.weights.items desk.old.raw.items }
+    requires room { HasRoom instance.now.sizes (vec_capacity desk.old.weighed) desk.old.raw.items }
     requires rows { length grid.old ≡ length (senders_of inbox.now q) }
     requires grid_places { (k : ℕ) → k < length grid.old → length (slice_index_or grid.old k []) ≡ states instance.now q }
-    ensures room { HasRoom instance.now.sizes desk.new.weights.items desk.new.raw.items }
+    ensures room { HasRoom instance.now.sizes (vec_capacity desk.new.weighed) desk.new.raw.items }
     ensures each { length grid.new ≡ length grid.old }
     ensures places { (r : ℕ) → length (slice_index_or grid.new r []) ≡ length (slice_index_or grid.old r []) }
     ensures said { (k : ℕ) → k < length (senders_of inbox.now q) → let p = slice_index (senders_of inbox.now q) k in IsMessage W.none W.plus W.minus W.clip W.cmp instance.now (has domains.now) (weight_for W.none W.plus fields.now inbox.now q p) p q (field W.none grid.new k) }
@@ -251,9 +226,9 @@ pub(crate) fn hear_all<W: Weight>(
     requires made { IsFor instance.now domains.now }
     requires closed { IsStable instance.now (has domains.now) }
     requires filled { IsFilled instance.now (has domains.now) }
-    requires room { HasRoom instance.now.sizes desk.old.weights.items desk.old.raw.items }
+    requires room { HasRoom instance.now.sizes (vec_capacity desk.old.weighed) desk.old.raw.items }
     requires shaped { AreShaped inbox.now.sizes inbox.now.senders next.old.items }
-    ensures room { HasRoom instance.now.sizes desk.new.weights.items desk.new.raw.items }
+    ensures room { HasRoom instance.now.sizes (vec_capacity desk.new.weighed) desk.new.raw.items }
     ensures shaped { AreShaped inbox.now.sizes inbox.now.senders next.new.items }
     ensures said { (q k : ℕ) → q < packages instance.now → k < length (senders_of inbox.now q) → let p = slice_index (senders_of inbox.now q) k in IsMessage W.none W.plus W.minus W.clip W.cmp instance.now (has domains.now) (weight_for W.none W.plus fields.now inbox.now q p) p q (field W.none (slice_index_or next.new.items q []) k) }
     ensures small { (q k j : ℕ) → W.is_within (2 ^ 40) (field W.none (slice_index_or next.new.items q []) k j) }

@@ -23,7 +23,7 @@ loop-k-preserved g c =
     let P = λ (r : ℕ). IsMessage none plus minus clip cmp graph d (weight_for none plus c.args.fields.now c.args.inbox.now c.args.q (get_or xs r 0)) (get_or xs r 0) c.args.q (cell none c.say.new.grid r) in
     record {
       room = record {
-        room = λ p h. (let before = inv.room.room p h in omega (arith, before, c.say.ensures.same));
+        states = λ p h. (let before = inv.room.states p h in omega (arith, before, c.say.ensures.same));
         more_room = λ p h. (let before = inv.room.more_room p h in omega (arith, before, c.say.ensures.raw_same));
       };
       each = c.say.ensures.each ∙ inv.each;

@@ -1,4 +1,4 @@
-use Rattle.std.proofs.Common.{◌≡◌, ◌<◌, ◌^◌, ℕ, [], length, get_or}
+use Rattle.std.proofs.Common.{◌≡◌, ◌<◌, ◌^◌, ℕ, [], vec_capacity, length, get_or}
 use Rattle.version_graph.specs.Graph.{states}
 use Rattle.version_graph.specs.Domain.{has}
 use Rattle.maxsum_messages.specs.Post.{senders_of}
@@ -9,7 +9,7 @@ use Rattle.maxsum_messages.proofs.saying.hear.Given as goal
 
 abbrev pub invariant-loop-k : goal.invariant-loop-k
 invariant-loop-k g l = record {
-  room : HasRoom l.instance.sizes l.desk.weights.items l.desk.raw.items;
+  room : HasRoom l.instance.sizes (vec_capacity l.desk.weighed) l.desk.raw.items;
   each : length l.grid ≡ length l.initial.grid;
   places : (r : ℕ) → length (get_or l.grid r []) ≡ length (get_or l.initial.grid r []);
   said : (r : ℕ) → r < l.k → IsMessage g.W.Weight.none g.W.Weight.plus g.W.Weight.minus g.W.Weight.clip g.W.Ord.cmp l.instance (has l.domains)

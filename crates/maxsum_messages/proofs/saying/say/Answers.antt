@@ -1,11 +1,12 @@
 use Rattle.std.proofs.Common.{◌≡◌, ◌∙◌, ◌^◌, ◌-◌, ◌<◌, ◌&&◌, not, cond, ℕ, [], length, get_or, ap, subst, sym, arith, inl, inr}
 use Rattle.std.proofs.lemmas.Bool.{cases_lt}
 use Rattle.std.proofs.lemmas.List.{get_or_past}
-use Rattle.version_graph.specs.Graph.{is_forbidden, states}
+use Rattle.version_graph.specs.Graph.{states}
 use Rattle.version_graph.specs.Domain.{has, row}
 use Rattle.maxsum_messages.specs.Greatest.{IsGreatest}
 use Rattle.maxsum_messages.specs.Round.{weight_for}
-use Rattle.maxsum_messages.proofs.Best.{in-range, both-first, greatest-same}
+use Rattle.maxsum_messages.specs.Weighed.{AreWeighed}
+use Rattle.maxsum_messages.proofs.Best.{in-range}
 use Rattle.maxsum_messages.proofs.Rows.{cell}
 use Rattle.maxsum_messages.proofs.One.{own-off}
 use Rattle.maxsum_messages.proofs.Quiet.{one-left, quiet}
@@ -27,6 +28,7 @@ returns-clause-said g c =
     let graph = c.args.instance.now in
     let p = c.args.p in
     let q = c.args.q in
+    let weight = weight_for none g.W.Weight.plus c.args.fields.now c.args.inbox.now q p in
     let raw = λ (j : ℕ). get_or c.gather.new.raw.items j none in
     let top = c.best_state-top.result in
     let wide = c.requires.made.wide q c.requires.second in
@@ -38,11 +40,7 @@ returns-clause-said g c =
     record {
       raw = raw;
       top = top;
-      best = λ j t. greatest-same cmp (λ i. has d p i && not (is_forbidden graph p i q j)) (λ i. get_or c.as_slice.result.now i none) (weight_for none g.W.Weight.plus c.args.fields.now c.args.inbox.now q p) (raw j)
-          (λ i u.
-          let there = in-range d p i (both-first _ _ u) in
-          ap (λ xs. get_or xs i none) c.as_slice.ensures.value ∙ c.weigh.ensures.weights i (omega (arith, there, c.requires.made.wide p c.requires.first, c.states.ensures.count)))
-          (c.gather.ensures.best j t);
+      best = λ j t. c.gather.ensures.best j t weight (subst (AreWeighed (has d p) weight) (sym c.as_slice.ensures.value) c.weigh.ensures.weighed);
       highest = subst (λ xs. IsGreatest cmp (has d q) (λ i. get_or xs i none) top) c.as_slice-2.ensures.value c.best_state-top.ensures;
       inside = λ j t. written j (let there = in-range d q j t in omega (arith, there, wide)) ∙ ap (λ b. cond b (lowered j) none) t;
       outside = λ j f. elim (cases_lt j (states graph q)) [
