@@ -114,7 +114,10 @@ module _ (selection_is_said : SelectionIsSaid) (stanzas_say_offers : StanzasSayO
         ] refl
       where
         passes : (v : Version) → version_in s u ≡ Some v → (t : SaidStanza) → bytes_eq u t.uuid ≡ true → is_of_package u t ≡ true
-        passes v is t named = (λ i. counts own ((bytes_eq-Decides u t.uuid).0 named (~ i)) && named i) ∙ ap (λ b. b && true) (others u v is)
+        passes v is t named =
+            let same : u ≡ t.uuid = (bytes_eq-Decides u t.uuid).0 named in
+            let counted : counts own t.uuid ≡ true = ap (counts own) (sym same) ∙ others u v is in
+            λ i. counted i && named i
 
     same_version : (u : Id) → version_in (selected_by read own (written book w found s)) u ≡ version_in s u
     same_version u =
