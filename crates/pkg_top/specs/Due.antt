@@ -1,13 +1,13 @@
 -- What a command is due to end with, by its words, its place and the files: the line that it prints and the files that it
 -- replaces, or its refusal.
-use Rattle.std.specs.Prelude.{◌≡◌, List, [], Option, Some, None, Result, Ok, Err, IfOk, MatchResult, String}
+use Rattle.std.specs.Prelude.{◌≡◌, ℕ, List, [], Option, Some, None, Result, Ok, Err, IfOk, MatchResult, String}
 use Rattle.std.specs.declared.alloc.Global.{Global}
 use Rattle.pkg_world.specs.declared.place.Place.{Place}
 use Rattle.pkg_world.specs.Tree.{Files}
 use Rattle.command_answers.specs.declared.status.Status.{Status}
 use Rattle.command_answers.specs.declared.status.Status.TheVariants.{BadWords, NotBuilt}
 use Rattle.command_answers.specs.declared.ending.Ending.{Ending}
-use Rattle.command_answers.specs.Answers.{RefusesEarly}
+use Rattle.command_answers.specs.Answers.{RefusesEarly, IsTimely}
 use Rattle.command_answers.specs.Endings.{SaidEnding}
 use Rattle.command_words.specs.declared.words.Asked as code
 use Rattle.command_words.specs.Pieces.{Word}
@@ -57,7 +57,7 @@ IsAnswerOf files place (not_built word) answer = Err (NotBuilt word) ≡ answer
 -- the line that is due, and no file is replaced
 abbrev pub IsPlain : (Result (List ℕ) Status → Type 0) → Result SaidEnding Status → Type 0
 IsPlain IsIt (Ok it) = (it.writes ≡ []) × IsIt (Ok it.line)
-IsPlain IsIt (Err status) = IsIt (Err status)
+IsPlain IsIt (Err refusal) = IsIt (Err refusal)
 
 -- what each command is due to end with
 abbrev pub IsEndingOf : Files → Place → Asked → Result SaidEnding Status → Type 0
@@ -75,7 +75,11 @@ IsDue files place words answer = IsDueAfter files place (early_due words) (asked
 -- a line as an ending without files
 abbrev pub IsEndingWith : Result (String Global) Status → Result Ending Status → Type 0
 IsEndingWith answer (Ok it) = (answer ≡ Ok it.line) × (it.writes.items ≡ [])
-IsEndingWith answer (Err status) = answer ≡ Err status
+IsEndingWith answer (Err refusal) = answer ≡ Err refusal
+
+-- the refusal by the words, or the ending after them
+abbrev pub EndsTimely : Option Status → Result Ending Status → Type 0
+EndsTimely early answer = MatchResult answer (λ it. early ≡ None) (IsTimely early)
 
 -- no file is replaced, unless what is asked replaces some
 abbrev pub IsStill : Asked → Result Ending Status → Type 0

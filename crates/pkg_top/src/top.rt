@@ -1,11 +1,11 @@
 //! The top call.
 ghost use Rattle.std.specs.Prelude.{◌≡◌, ◌≤◌, None, IfSome, IfErr};
-ghost use Rattle.command_answers.specs.Answers.{AnswersTimely, IsLate, IsTimely, ReadFaultRose, WriteFaultRose, SinkFaultRose, PrintsOnlyAtOk, IsUnprinted, Tells};
+ghost use Rattle.command_answers.specs.Answers.{IsLate, IsTimely, ReadFaultRose, WriteFaultRose, SinkFaultRose, PrintsOnlyAtOk, IsUnprinted, Tells};
 ghost use Rattle.command_answers.specs.Endings.{EndsBy};
 ghost use Rattle.check_command.specs.Answered.{AnswersBy};
 ghost use Rattle.command_words.specs.Seen.{asked_of, texts};
 ghost use Rattle.command_words.specs.Words.{asked as meant};
-ghost use Rattle.pkg_top.specs.Due.{IsReading, IsAnswerOf, IsEndingOf, IsDue, IsEndingWith, IsStill, early_of, early_due};
+ghost use Rattle.pkg_top.specs.Due.{IsReading, IsAnswerOf, IsEndingOf, IsDue, IsEndingWith, EndsTimely, IsStill, early_of, early_due};
 ghost use Rattle.pkg_top.specs.Left.{Ends};
 
 use crate::early::asked_for;
@@ -71,7 +71,7 @@ fn answer<S: Store>(
     store: &mut S,
 ) -> Result<Ending, Status>
     ensures answer { IfSome (S.files store.old) (λ all. EndsBy (IsDue all place.now (texts words.now)) result) }
-    ensures timely { AnswersTimely (early_due (texts words.now)) result }
+    ensures timely { EndsTimely (early_due (texts words.now)) result }
     ensures still { IsStill (meant (texts words.now)) result }
     ensures fault { IfErr result (ReadFaultRose (S.read_faults store.old) (S.read_faults store.new)) }
     ensures unprinted { IfErr result IsUnprinted }
