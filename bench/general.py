@@ -1,7 +1,8 @@
 """A registry of the size and shape of General: 12,000 packages with 350,000 versions, their tables compressed by ranges.
 
 The first 500 packages have 20,000 of the versions, and depend on each other and on standard libraries alone: a project that
-depends on the first ten reaches them all.
+depends on the first ten reaches them all. One version of each of them is drawn, and what these ask of each other they hold, so
+that there is a selection.
 """
 import os
 import random
@@ -36,6 +37,9 @@ def library_name(number):
 
 def library_id(number):
     return identifier(5000 + number)
+
+
+NUMBERS = {package_id(number): number for number in range(PACKAGES)}
 
 
 def counts(packages, versions):
@@ -97,9 +101,18 @@ def sections(versions, entries):
     return "\n".join(parts)
 
 
-def allowed():
-    """What is allowed of a package: a range, or a list of them."""
+def allowed(kept):
+    """What is allowed of a package: a range, or a list of them, which holds the kept version where one is given."""
     drawn = random.random()
+    if kept:
+        major, minor, patch = kept
+        if drawn < 0.4:
+            return f'"{major}"'
+        if drawn < 0.7:
+            return f'"{major}.{minor}-{major}"'
+        if drawn < 0.85:
+            return f'"{major}.{max(minor - 1, 0)}-{major}.{minor}"'
+        return f'"{major}.{minor}.{patch}-{major}"'
     minor = random.randrange(9)
     if drawn < 0.4:
         return '"1"'
@@ -130,16 +143,21 @@ def needed(number):
     return packages, [(library_name(it), library_id(it)) for it in libraries]
 
 
-def tables(number, count):
-    """The files of a package, each with its text."""
-    versions = versions_of(count)
+def tables(number, each, kept):
+    """The files of a package, each with its text. Of the reached packages `each` has the versions, and `kept` the place of one of
+    them: these together meet all that they ask of each other."""
+    versions = each[number]
+    count = len(versions)
     packages, libraries = needed(number)
     deps, compat = [], []
     for place, (name, own) in enumerate(packages + libraries):
         first = 0 if place < 3 else random.randint(0, (count - 1) // 2)
         deps.append((first, count - 1, name, f'"{own}"'))
         if place < len(packages):
-            compat += [(low, high, name, allowed()) for low, high in pieces(first, count - 1, 5)]
+            for low, high in pieces(first, count - 1, 5):
+                other = NUMBERS[own]
+                meets = number < REACHED and low <= kept[number] <= high
+                compat.append((low, high, name, allowed(each[other][kept[other]] if meets else None)))
     compat += [(low, high, "julia", f'"{random.choice(("1", "1.6-1", "0.7-1", "1.10-1"))}"') for low, high in pieces(0, count - 1, 4)]
     weak, weak_compat = [], []
     if random.random() < 0.1:
@@ -163,14 +181,15 @@ def general(folder):
     """Makes a depot, the folder of the standard libraries and a project, and gives the files that its book is gathered of."""
     random.seed(1)
     registry = os.path.join(folder, "depot", "registries", "General")
-    each = counts(REACHED, REACHED_VERSIONS) + counts(PACKAGES - REACHED, VERSIONS - REACHED_VERSIONS)
+    each = [versions_of(it) for it in counts(REACHED, REACHED_VERSIONS) + counts(PACKAGES - REACHED, VERSIONS - REACHED_VERSIONS)]
+    kept = [random.randrange(len(it) // 2, len(it)) for it in each]
     listed = [f'{package_id(it)} = {{ name = "{package_name(it)}", path = "P/{package_name(it)}" }}\n' for it in range(PACKAGES)]
     head = f'name = "General"\nuuid = "{identifier(1)}"\nrepo = "https://example.org/General.git"\n\n[packages]\n'
     own = os.path.join(registry, "Registry.toml")
     write(own, head + "".join(sorted(listed)))
     read = [own]
     for number in range(PACKAGES):
-        for file, text in tables(number, each[number]).items():
+        for file, text in tables(number, each, kept).items():
             path = os.path.join(registry, "P", package_name(number), file)
             write(path, text)
             if number < REACHED:

@@ -16,35 +16,15 @@ use Rattle.offer_book.specs.Gathered.{gathered}
 use Rattle.offer_book.specs.Laws.{ValidAlike, RaisedAlike}
 use Rattle.pkg_commands.specs.Edit.{Edited, EditRefusal}
 use Rattle.command_answers.specs.declared.status.Status.{Status}
-use Rattle.command_answers.specs.declared.status.Status.TheVariants.{Ok as StatusOk, BadWords, MissingFile, BadFile, NeedsFetch, NoIdentity, NoSource, ReadFault, UnknownName, UnknownPackage, AmbiguousName, Limit, Differs, NotInManifest, WrongJulia, NotBuilt, Memory, SinkFault}
 use Rattle.check_command.specs.CheckDue.{Judged, judged_by, with_book, with_demand, with_selection, told_book, IsRaise, IsJudgement, IsAnswerOn}
-use Rattle.check_command.specs.Answered.{RefusesBy, AnswersBy, AnswersOn}
-
-refuses_as : (One Other : Result (List ℕ) Status → Type 0) → ((answer : Result (List ℕ) Status) → One answer → Other answer) → (status : Status) → RefusesBy One status → RefusesBy Other status
-refuses_as One Other is StatusOk h = h
-refuses_as One Other is (BadWords word) h = is (Err (BadWords word)) h
-refuses_as One Other is (MissingFile path) h = is (Err (MissingFile path)) h
-refuses_as One Other is (BadFile path cause) h = is (Err (BadFile path cause)) h
-refuses_as One Other is (NeedsFetch name) h = is (Err (NeedsFetch name)) h
-refuses_as One Other is (NoIdentity name) h = is (Err (NoIdentity name)) h
-refuses_as One Other is (NoSource uuid) h = is (Err (NoSource uuid)) h
-refuses_as One Other is (ReadFault path) h = tt
-refuses_as One Other is (UnknownName name) h = is (Err (UnknownName name)) h
-refuses_as One Other is (UnknownPackage uuid) h = is (Err (UnknownPackage uuid)) h
-refuses_as One Other is (AmbiguousName first second) h = is (Err (AmbiguousName first second)) h
-refuses_as One Other is (Limit kind count) h = is (Err (Limit kind count)) h
-refuses_as One Other is (Differs difference) h = is (Err (Differs difference)) h
-refuses_as One Other is (NotInManifest name) h = is (Err (NotInManifest name)) h
-refuses_as One Other is (WrongJulia text) h = is (Err (WrongJulia text)) h
-refuses_as One Other is (NotBuilt word) h = is (Err (NotBuilt word)) h
-refuses_as One Other is Memory h = tt
-refuses_as One Other is SinkFault h = h
+use Rattle.command_answers.proofs.Endings.{refuses_as}
+use Rattle.check_command.specs.Answered.{AnswersBy, AnswersOn}
 
 -- an answer that is due by one relation is due by another
 answers_as : (One Other : Result (List ℕ) Status → Type 0) → ((answer : Result (List ℕ) Status) → One answer → Other answer) → (answer : Result (String Global) Status)
     → AnswersBy One answer → AnswersBy Other answer
 answers_as One Other is (Ok text) h = is (Ok (string_bytes text)) h
-answers_as One Other is (Err status) h = refuses_as One Other is status h
+answers_as One Other is (Err status) h = refuses_as One Other (λ refusal. is (Err refusal)) status h
 
 module _ (valid_law : ValidAlike) (raised_law : RaisedAlike) (files : Files) (catalog : SaidCatalog) (w : Wanted) (s : Selected) (extra : List Id) (book : List Packed)
     (gathers : gathered files catalog (scope w) extra ≡ Ok book) where

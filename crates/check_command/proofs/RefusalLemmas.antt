@@ -14,7 +14,7 @@ use Rattle.command_answers.specs.Answers.{ReadFaultRose, IsLate, IsUnprinted}
 use Rattle.command_answers.specs.declared.status.Status.{Status}
 use Rattle.command_answers.specs.declared.status.Status.TheVariants as status
 use Rattle.check_command.specs.CheckDue.{Judged, told_read, told_book, IsAnswerOn}
-use Rattle.check_command.specs.Answered.{RefusesBy}
+use Rattle.command_answers.specs.Endings.{RefusesBy}
 use Rattle.check_command.specs.Refusals.{book_status}
 
 -- what an equal refusal ends with

@@ -3,7 +3,7 @@ use Rattle.std.specs.Prelude.{◌≡◌, ℕ, List, ◌++◌, take, Option, Some
 use Rattle.std.specs.declared.alloc.Global.{Global}
 use Rattle.pkg_world.specs.Outside.{Rose}
 use Rattle.command_answers.specs.declared.status.Status.{Status}
-use Rattle.command_answers.specs.declared.status.Status.TheVariants.{Ok as StatusOk, BadWords, ReadFault, NotBuilt, Memory, SinkFault}
+use Rattle.command_answers.specs.declared.status.Status.TheVariants.{Ok as StatusOk, BadWords, ReadFault, WriteFault, Blocked, NotBuilt, Memory, SinkFault}
 use Rattle.command_answers.specs.declared.status.Told.{Told}
 use Rattle.command_answers.specs.declared.status.Told.TheVariants.{Whole, Failed, Memory as ToldMemory}
 use Rattle.command_answers.specs.Lines.{status_line}
@@ -12,6 +12,8 @@ use Rattle.command_answers.specs.Lines.{status_line}
 abbrev pub Refuses : {T : Type 0} → Result T Status → Status → Type 0
 Refuses due StatusOk = ⊥
 Refuses due (ReadFault path) = Unit {0}
+Refuses due (WriteFault path) = ⊥
+Refuses due (Blocked path) = ⊥
 Refuses due Memory = Unit {0}
 Refuses due SinkFault = ⊥
 Refuses due status = due ≡ Err status
@@ -45,22 +47,21 @@ ReadFaultRose before now _ = Unit {0}
 
 abbrev pub NoFault : Status → Type 0
 NoFault (ReadFault path) = ⊥
+NoFault (WriteFault path) = ⊥
 NoFault SinkFault = ⊥
 NoFault _ = Unit {0}
+
+-- a failed write comes only where its count rose
+abbrev pub WriteFaultRose : ℕ → ℕ → Status → Type 0
+WriteFaultRose before now (WriteFault path) = Rose before now
+WriteFaultRose before now _ = Unit {0}
 
 -- a failed print comes only where its count rose
 abbrev pub SinkFaultRose : ℕ → ℕ → Status → Type 0
 SinkFaultRose before now SinkFault = Rose before now
 SinkFaultRose before now _ = Unit {0}
 
--- what is printed at Ok is the line that is due; at SinkFault a prefix of it; else nothing
-abbrev pub Prints : Result (List ℕ) Status → Option (List ℕ) → Option (List ℕ) → Status → Type 0
-Prints due old new StatusOk = (line : List ℕ) × (due ≡ Ok line) × (new ≡ option_map (λ text. text ++ line) old)
-Prints due old new SinkFault = (line : List ℕ) × (kept : ℕ) × (due ≡ Ok line) × (new ≡ option_map (λ text. text ++ take kept line) old)
-Prints due old new Memory = new ≡ old
-Prints due old new status = (new ≡ old) × Refuses due status
-
--- the same over a store that does not tell its files
+-- over a store that may not tell its files: at Ok something is printed, at SinkFault maybe a part of it, else nothing
 abbrev pub PrintsOnlyAtOk : Option (List ℕ) → Option (List ℕ) → Status → Type 0
 PrintsOnlyAtOk old new StatusOk = Unit {0}
 PrintsOnlyAtOk old new SinkFault = Unit {0}
@@ -81,9 +82,11 @@ abbrev pub IsRefusal : Status → Type 0
 IsRefusal StatusOk = ⊥
 IsRefusal _ = Unit {0}
 
--- a refusal before anything is printed
+-- a refusal before anything is replaced or printed
 abbrev pub IsUnprinted : Status → Type 0
 IsUnprinted StatusOk = ⊥
+IsUnprinted (WriteFault path) = ⊥
+IsUnprinted (Blocked path) = ⊥
 IsUnprinted SinkFault = ⊥
 IsUnprinted _ = Unit {0}
 

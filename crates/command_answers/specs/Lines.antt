@@ -1,5 +1,5 @@
 -- The lines that are printed, each ended by a newline. (own rule)
-use Rattle.std.specs.Prelude.{ℕ, List, [], ◌∷◌, ◌++◌, codes, Option, Some, None}
+use Rattle.std.specs.Prelude.{ℕ, List, [], ◌∷◌, ◌++◌, length, codes, Option, Some, None}
 use Rattle.std.specs.Fmt.{decimal}
 use Rattle.uuid.specs.Text.{hyphenated_text, lower}
 use Rattle.pkg_world.specs.Path.{path_text}
@@ -13,7 +13,7 @@ use Rattle.selection_check.specs.declared.verdict.Verdict.TheVariants.{Good, Mis
 use Rattle.command_answers.specs.declared.status.Difference.{Difference}
 use Rattle.command_answers.specs.declared.status.Difference.TheVariants.{Broken, Trees}
 use Rattle.command_answers.specs.declared.status.Status.{Status}
-use Rattle.command_answers.specs.declared.status.Status.TheVariants.{Ok as StatusOk, BadWords, MissingFile, BadFile, NeedsFetch, NoIdentity, NoSource, ReadFault, UnknownName, UnknownPackage, AmbiguousName, Limit, Differs, NotInManifest, WrongJulia, NotBuilt, Memory, SinkFault}
+use Rattle.command_answers.specs.declared.status.Status.TheVariants.{Ok as StatusOk, BadWords, MissingFile, BadFile, NeedsFetch, NoIdentity, NoSource, Unsatisfiable, GaveUp, ReadFault, WriteFault, Blocked, UnknownName, UnknownPackage, AmbiguousName, Limit, Differs, NotInManifest, WrongJulia, NotBuilt, Memory, SinkFault}
 
 -- an identifier in lower case with hyphens, nil as `-`
 abbrev pub uuid_text : Option (List ℕ) → List ℕ
@@ -62,7 +62,7 @@ difference_text (Trees wanted found) = two (tree_text wanted) (tree_text found)
 abbrev pub error_line : List ℕ → List ℕ → List ℕ
 error_line head carried = codes "error " ++ (head ++ (codes " " ++ (carried ++ 10 ∷ [])))
 
--- the line of a status that is not Ok
+-- the line of a status that is not Ok; a log is told by how many nodes it has
 abbrev pub status_line : Status → List ℕ
 status_line StatusOk = []
 status_line (BadWords word) = error_line (codes "2 BadWords") word
@@ -71,7 +71,11 @@ status_line (BadFile path cause) = error_line (codes "3 BadFile") (two (path_tex
 status_line (NeedsFetch name) = error_line (codes "3 NeedsFetch") name
 status_line (NoIdentity name) = error_line (codes "4 NoIdentity") name
 status_line (NoSource uuid) = error_line (codes "5 NoSource") (uuid_text uuid)
+status_line (Unsatisfiable log) = error_line (codes "6 Unsatisfiable") (decimal (length log.items))
+status_line (GaveUp log) = error_line (codes "7 GaveUp") (decimal (length log.items))
 status_line (ReadFault path) = error_line (codes "8 ReadFault") (path_text path)
+status_line (WriteFault path) = error_line (codes "9 WriteFault") (path_text path)
+status_line (Blocked path) = error_line (codes "9 Blocked") (path_text path)
 status_line (UnknownName name) = error_line (codes "10 UnknownName") name
 status_line (UnknownPackage uuid) = error_line (codes "10 UnknownPackage") (hyphenated_text lower uuid)
 status_line (AmbiguousName first second) = error_line (codes "11 AmbiguousName") (two (hyphenated_text lower first) (hyphenated_text lower second))
@@ -92,7 +96,11 @@ code_of (BadFile path cause) = 3
 code_of (NeedsFetch name) = 3
 code_of (NoIdentity name) = 4
 code_of (NoSource uuid) = 5
+code_of (Unsatisfiable log) = 6
+code_of (GaveUp log) = 7
 code_of (ReadFault path) = 8
+code_of (WriteFault path) = 9
+code_of (Blocked path) = 9
 code_of (UnknownName name) = 10
 code_of (UnknownPackage uuid) = 10
 code_of (AmbiguousName first second) = 11

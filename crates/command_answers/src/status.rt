@@ -1,5 +1,5 @@
 //! How a command ends.
-ghost use Rattle.std.specs.Prelude.{◌≡◌, ◌++◌, ◌∷◌, [], Some, codes, IfOk, string_bytes};
+ghost use Rattle.std.specs.Prelude.{◌≡◌, ◌++◌, ◌∷◌, [], length, Some, codes, IfOk, string_bytes};
 ghost use Rattle.std.specs.Fmt.{decimal};
 ghost use Rattle.pkg_world.specs.Path.{path_text};
 ghost use Rattle.pkg_world.specs.TreeIds.{tree_text};
@@ -8,6 +8,7 @@ ghost use Rattle.command_answers.specs.Lines.{code_of, status_line as line_of, e
 use crate::cause_line::{cause_text, number_text, plain_uuid, two_words};
 use crate::verdict_line::verdict_text;
 use pkg_world::{Cause, LimitKind, Name, NormPath, Text, TreeId};
+use refutation_log::Log;
 use selection_check::Verdict;
 use std::alloc::{AllocError, Global};
 use uuid::Uuid;
@@ -56,8 +57,16 @@ pub enum Status {
     NoIdentity(Name),
     /// The package of this identifier has no entry file.
     NoSource(Option<Uuid>),
-    /// The outside failed at this path.
+    /// No selection exists, as this log shows.
+    Unsatisfiable(Log),
+    /// The search has more nodes than its budget; these are the first.
+    GaveUp(Log),
+    /// Reading failed outside at this path.
     ReadFault(NormPath),
+    /// Writing failed outside at this path.
+    WriteFault(NormPath),
+    /// This path was to be replaced, and is a folder or lies below a file.
+    Blocked(NormPath),
     /// No registry lists this name.
     UnknownName(Name),
     /// Nothing offers the package of this identifier.
@@ -93,7 +102,11 @@ impl Status {
             Status::NeedsFetch(_) => 3,
             Status::NoIdentity(_) => 4,
             Status::NoSource(_) => 5,
+            Status::Unsatisfiable(_) => 6,
+            Status::GaveUp(_) => 7,
             Status::ReadFault(_) => 8,
+            Status::WriteFault(_) => 9,
+            Status::Blocked(_) => 9,
             Status::UnknownName(_) => 10,
             Status::UnknownPackage(_) => 10,
             Status::AmbiguousName(..) => 11,
@@ -131,7 +144,11 @@ pub fn status_line(alloc: Global, status: &Status) -> Result<String, AllocError>
         Status::NeedsFetch(name) => error_line(alloc, "3 NeedsFetch", name.as_str()),
         Status::NoIdentity(name) => error_line(alloc, "4 NoIdentity", name.as_str()),
         Status::NoSource(uuid) => no_source_line(alloc, uuid),
+        Status::Unsatisfiable(log) => log_line(alloc, "6 Unsatisfiable", log),
+        Status::GaveUp(log) => log_line(alloc, "7 GaveUp", log),
         Status::ReadFault(path) => error_line(alloc, "8 ReadFault", path.as_str()),
+        Status::WriteFault(path) => error_line(alloc, "9 WriteFault", path.as_str()),
+        Status::Blocked(path) => error_line(alloc, "9 Blocked", path.as_str()),
         Status::UnknownName(name) => error_line(alloc, "10 UnknownName", name.as_str()),
         Status::UnknownPackage(uuid) => unknown_package_line(alloc, uuid),
         Status::AmbiguousName(first, second) => ambiguous_line(alloc, first, second),
@@ -164,6 +181,14 @@ fn two_carried(alloc: Global, head: &str, first: &str, second: &str) -> Result<S
 {
     let carried = two_words(alloc, first, second)?;
     error_line(alloc, head, carried.as_str())
+}
+
+/// The line of a log, by how many nodes it has.
+fn log_line(alloc: Global, head: &str, log: &Log) -> Result<String, AllocError>
+    ensures { IfOk result (λ line. string_bytes line ≡ line_with head.now (decimal (length log.now.items))) }
+{
+    let count = number_text(alloc, log.items().len() as u64)?;
+    error_line(alloc, head, count.as_str())
 }
 
 fn unknown_package_line(alloc: Global, uuid: &Uuid) -> Result<String, AllocError>

@@ -1,3 +1,4 @@
 pub mod Pieces
+pub mod Budgets
 pub mod Words
 pub mod Seen

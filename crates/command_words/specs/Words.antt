@@ -1,5 +1,5 @@
 -- What the words of a command mean. (own rule)
-use Rattle.std.specs.Prelude.{Bool, true, false, not, nat_lt, ◌==◌, ◌&&◌, ◌||◌, if◌then◌else◌, List, [], ◌∷◌, ◌++◌, length, codes, Option, Some, None, option_map}
+use Rattle.std.specs.Prelude.{ℕ, Bool, true, false, not, nat_lt, ◌==◌, ◌&&◌, ◌||◌, if◌then◌else◌, List, [], ◌∷◌, ◌++◌, length, codes, Option, Some, None, option_map}
 use Rattle.std.specs.List.{list_all, list_any, starts_with, position_or_len, before_first, after_first}
 use Rattle.std.specs.Str.{bytes_eq}
 use Rattle.std.specs.Option.{option_and_then}
@@ -9,6 +9,7 @@ use Rattle.uuid.specs.Text.{parsed}
 use Rattle.env_maps.specs.declared.id.Context.{Context}
 use Rattle.env_maps.specs.declared.id.Context.TheVariants.{Top, Package}
 use Rattle.command_words.specs.declared.words.NameAndValue.{NameAndValue}
+use Rattle.command_words.specs.Budgets.{usual_budget, budget_of}
 use Rattle.command_words.specs.Pieces.{Word, pieces, is_equals}
 
 pub data Asked : Type 0 where
@@ -21,6 +22,8 @@ pub data Asked : Type 0 where
   -- `verify` of a name, with a list of paths where one is given
   verify : Word → Option Word → Asked
   check : Asked
+  -- `resolve` within a budget of nodes, and whether it tells classes
+  resolve : ℕ → Bool → Asked
   -- words that break the rules, with the command word that is told
   refused_words : Word → Asked
   -- a command or an option that this version does not have yet
@@ -61,6 +64,26 @@ one_flag (piece ∷ next ∷ more) = None
 abbrev pub no_pieces : List Piece → Option Asked
 no_pieces [] = Some check
 no_pieces (piece ∷ more) = None
+
+abbrev pub resolve_by : Bool → Word → Option Asked
+resolve_by classes text = option_map (λ budget. resolve budget classes) (budget_of text)
+
+abbrev pub resolve_one : Piece → Option Asked
+resolve_one (Operand word) = None
+resolve_one Flag = Some (resolve usual_budget true)
+resolve_one (Value text) = resolve_by false text
+
+abbrev pub resolve_two : Piece → Piece → Option Asked
+resolve_two (Operand word) second = None
+resolve_two Flag second = option_and_then (resolve_by true) (value_of second)
+resolve_two (Value text) second = option_and_then (λ classes. resolve_by classes text) (flag_of second)
+
+-- the budget and the flag, each at most once, in either order
+abbrev pub resolve_of : List Piece → Option Asked
+resolve_of [] = Some (resolve usual_budget false)
+resolve_of (piece ∷ []) = resolve_one piece
+resolve_of (first ∷ second ∷ []) = resolve_two first second
+resolve_of (first ∷ second ∷ third ∷ more) = None
 
 -- a name with the value of the command's option
 abbrev pub name_with : Piece → Piece → Option NameAndValue
@@ -106,18 +129,20 @@ built_words command rest =
     else if bytes_eq command (codes "status") then option_map status (option_and_then one_flag (pieces None (Some (codes "--all")) false rest))
     else if bytes_eq command (codes "verify") then option_map verify_of (option_and_then name_and_value (pieces (Some (codes "--exec")) None false rest))
     else if bytes_eq command (codes "check") then option_and_then no_pieces (pieces None None false rest)
+    else if bytes_eq command (codes "resolve") then option_and_then resolve_of (pieces (Some (codes "--budget")) (Some (codes "--classes")) false rest)
     else None
 
 -- the option itself, or it with a value behind `=`
 abbrev pub is_option : Word → Word → Bool
 is_option option word = bytes_eq word option || starts_with (λ a b. a == b) word (option ++ codes "=")
 
--- an option of a command that is not built
+-- an option of a built command that this version does not have yet
 abbrev pub unbuilt_option : Word → Word → Option Word
 unbuilt_option command word =
     if bytes_eq command (codes "which") && is_option (codes "--ext") word then Some (codes "--ext")
     else if bytes_eq command (codes "status") && is_option (codes "--extensions") word then Some (codes "--extensions")
     else if bytes_eq command (codes "check") && is_option (codes "--proof") word then Some (codes "--proof")
+    else if bytes_eq command (codes "resolve") && is_option (codes "--proof") word then Some (codes "--proof")
     else None
 
 abbrev pub or_next : Option Word → Option Word → Option Word
@@ -130,7 +155,7 @@ first_unbuilt command (word ∷ more) = or_next (unbuilt_option command word) (f
 
 -- the commands that later versions have
 abbrev pub later_commands : List Word
-later_commands = codes "resolve" ∷ codes "add" ∷ codes "rm" ∷ codes "pin" ∷ codes "free" ∷ codes "develop" ∷ codes "make" ∷ []
+later_commands = codes "add" ∷ codes "rm" ∷ codes "pin" ∷ codes "free" ∷ codes "develop" ∷ codes "make" ∷ []
 
 abbrev pub or_refused : Word → Option Asked → Asked
 or_refused command (Some asked) = asked

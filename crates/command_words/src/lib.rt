@@ -1,6 +1,7 @@
 //! What the words of a command ask for.
 #![tactic(auto)]
 
+mod budget;
 mod pieces;
 mod words;
 

@@ -8,6 +8,7 @@ ghost use Rattle.command_words.specs.Pieces.{pieces as pieces_meant};
 ghost use Rattle.command_words.specs.declared.pieces.Piece.TheVariants.{Operand};
 ghost use Rattle.command_words.specs.Seen.{asked_of, texts};
 
+use crate::budget::{USUAL_BUDGET, budget_of};
 use crate::pieces::{Piece, read_pieces};
 use env_maps::{Context, Id};
 use pkg_world::{Duplicate, Name, Text};
@@ -27,6 +28,8 @@ pub enum Asked {
     Verify(Name, Option<Text>),
     /// `check`.
     Check,
+    /// `resolve` within a budget of nodes, from 1 to 16,777,216, and whether it tells classes.
+    Resolve { budget: u32, classes: bool },
     /// The words break the rules: the command word, or `-` where there is none.
     BadWords(Text),
     /// A command or an option that this version does not have yet.
@@ -79,8 +82,7 @@ fn words_or_refused(alloc: Global, command: &str, rest: &[String]) -> Result<Ask
 fn is_later_command(command: &str) -> bool
     ensures { result ≡ list_any (λ later. bytes_eq command.now later) spec.later_commands }
 {
-    command == "resolve"
-        || command == "add"
+    command == "add"
         || command == "rm"
         || command == "pin"
         || command == "free"
@@ -108,6 +110,8 @@ fn unbuilt_option(command: &str, word: &str) -> Option<&'static str>
     } else if command == "status" && is_extensions(word) {
         Some("--extensions")
     } else if command == "check" && is_proof(word) {
+        Some("--proof")
+    } else if command == "resolve" && is_proof(word) {
         Some("--proof")
     } else {
         None
@@ -150,6 +154,9 @@ fn built_words(alloc: Global, command: &str, rest: &[String]) -> Result<Option<A
     }
     if command == "check" {
         return check_words(alloc, rest);
+    }
+    if command == "resolve" {
+        return resolve_words(alloc, rest);
     }
     Ok(None)
 }
@@ -236,6 +243,15 @@ fn check_words(alloc: Global, rest: &[String]) -> Result<Option<Asked>, AllocErr
     }
 }
 
+fn resolve_words(alloc: Global, rest: &[String]) -> Result<Option<Asked>, AllocError>
+    ensures { IfOk result (λ asked. option_map asked_of asked ≡ spec.built_words (codes "resolve") (texts rest.now)) }
+{
+    match read_pieces(alloc, Some("--budget"), Some("--classes"), rest)? {
+        Some(found) => Ok(resolve_asked(found.as_slice())),
+        None => Ok(None),
+    }
+}
+
 fn status_words(alloc: Global, rest: &[String]) -> Result<Option<Asked>, AllocError>
     ensures { IfOk result (λ asked. option_map asked_of asked ≡ spec.built_words (codes "status") (texts rest.now)) }
 {
@@ -308,6 +324,35 @@ fn check_asked(found: &[Piece]) -> Option<Asked>
     match found {
         [] => Some(Asked::Check),
         _ => None,
+    }
+}
+
+/// The budget and the flag, each at most once, in either order.
+fn resolve_asked(found: &[Piece]) -> Option<Asked>
+    ensures { option_map asked_of result ≡ spec.resolve_of found.now }
+{
+    match found {
+        [] => Some(Asked::Resolve {
+            budget: USUAL_BUDGET,
+            classes: false,
+        }),
+        [Piece::Flag] => Some(Asked::Resolve {
+            budget: USUAL_BUDGET,
+            classes: true,
+        }),
+        [Piece::Value(text)] => resolve_by(text, false),
+        [Piece::Flag, Piece::Value(text)] => resolve_by(text, true),
+        [Piece::Value(text), Piece::Flag] => resolve_by(text, true),
+        _ => None,
+    }
+}
+
+fn resolve_by(text: &Text, classes: bool) -> Option<Asked>
+    ensures { option_map asked_of result ≡ spec.resolve_by classes text.now }
+{
+    match budget_of(text.as_str()) {
+        Some(budget) => Some(Asked::Resolve { budget, classes }),
+        None => None,
     }
 }
 

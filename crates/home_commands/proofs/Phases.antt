@@ -1,7 +1,7 @@
 -- A refusal of a first phase is that of the whole answer.
 use Rattle.std.proofs.Common.{Option, Some, None, IfSome, Result, ap}
 use Rattle.command_answers.specs.declared.status.Status.{Status}
-use Rattle.command_answers.specs.declared.status.Status.TheVariants.{Ok as StatusOk, BadWords, MissingFile, BadFile, NeedsFetch, NoIdentity, NoSource, ReadFault, UnknownName, UnknownPackage, AmbiguousName, Limit, Differs, NotInManifest, WrongJulia, NotBuilt, Memory, SinkFault}
+use Rattle.command_answers.specs.declared.status.Status.TheVariants.{Ok as StatusOk, BadWords, MissingFile, BadFile, NeedsFetch, NoIdentity, NoSource, Unsatisfiable, GaveUp, ReadFault, WriteFault, Blocked, UnknownName, UnknownPackage, AmbiguousName, Limit, Differs, NotInManifest, WrongJulia, NotBuilt, Memory, SinkFault}
 use Rattle.command_answers.specs.Answers.{Refuses}
 use Rattle.pkg_world.specs.Each.{then_ok}
 
@@ -13,7 +13,11 @@ refused_then phase next (BadFile path cause) h = ap (λ r. then_ok r next) h
 refused_then phase next (NeedsFetch name) h = ap (λ r. then_ok r next) h
 refused_then phase next (NoIdentity name) h = ap (λ r. then_ok r next) h
 refused_then phase next (NoSource uuid) h = ap (λ r. then_ok r next) h
+refused_then phase next (Unsatisfiable log) h = ap (λ r. then_ok r next) h
+refused_then phase next (GaveUp log) h = ap (λ r. then_ok r next) h
 refused_then phase next (ReadFault path) h = tt
+refused_then phase next (WriteFault path) h = h
+refused_then phase next (Blocked path) h = h
 refused_then phase next (UnknownName name) h = ap (λ r. then_ok r next) h
 refused_then phase next (UnknownPackage uuid) h = ap (λ r. then_ok r next) h
 refused_then phase next (AmbiguousName first second) h = ap (λ r. then_ok r next) h

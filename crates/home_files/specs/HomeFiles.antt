@@ -1,7 +1,8 @@
--- What the two files of the active project say, where both must be there, or the first of them that is missing or refused.
--- (Pkg, Project.toml and Manifest.toml; where they lie: Julia manual, Code Loading.)
---     home_files files place     the paths of both and what they say, or the first refusal
-use Rattle.std.specs.Prelude.{◌≡◌, if◌then◌else◌, Ok, Err}
+-- What the two files of the active project say, or the first of them that is missing or refused. The project file must be
+-- there, and so must the manifest where it is needed; one that isn't needed and isn't there is empty. (Pkg, Project.toml and
+-- Manifest.toml; where they lie: Julia manual, Code Loading.)
+--     project_files needed files place     the paths of both and what they say, or the first refusal
+use Rattle.std.specs.Prelude.{◌≡◌, Bool, true, if◌then◌else◌, Ok, Err}
 use Rattle.pkg_world.specs.Each.{then_ok}
 use Rattle.pkg_world.specs.Path.{Path}
 use Rattle.pkg_world.specs.Tree.{Files, holds, is_file}
@@ -35,20 +36,28 @@ manifest_read files path = read_as (places.at_file path (places.manifest_in (hol
 abbrev pub manifest_needed : Files → Path → Read manifest.Said
 manifest_needed files path = if is_file (holds path files) then manifest_read files path else Err (missing path)
 
+-- the manifest at a path, and whether it must be there
+abbrev pub manifest_by : Bool → Files → Path → Read manifest.Said
+manifest_by needed files path = if needed then manifest_needed files path else manifest_read files path
+
 abbrev pub joined : Path → project.Said → Path → manifest.Said → HomeFiles
 joined file said path found = record { home = record { project = file; manifest = path }; project = said; manifest = found }
 
-abbrev pub with_manifest : Files → Path → project.Said → Path → Read HomeFiles
-with_manifest files file said path = then_ok (manifest_needed files path) (λ found. Ok (joined file said path found))
+abbrev pub with_manifest : Bool → Files → Path → project.Said → Path → Read HomeFiles
+with_manifest needed files file said path = then_ok (manifest_by needed files path) (λ found. Ok (joined file said path found))
 
-abbrev pub with_project : Files → Path → project.Said → Read HomeFiles
-with_project files file said = then_ok (read_as (places.at_file file (manifest_path files file said.manifest))) (with_manifest files file said)
+abbrev pub with_project : Bool → Files → Path → project.Said → Read HomeFiles
+with_project needed files file said = then_ok (read_as (places.at_file file (manifest_path files file said.manifest))) (with_manifest needed files file said)
 
-abbrev pub at_file : Files → Path → Read HomeFiles
-at_file files file = then_ok (project_needed files file) (with_project files file)
+abbrev pub at_file : Bool → Files → Path → Read HomeFiles
+at_file needed files file = then_ok (project_needed files file) (with_project needed files file)
 
+abbrev pub project_files : Bool → Files → Place → Read HomeFiles
+project_files needed files place = at_file needed files (active_file files place)
+
+-- both files, which must be there
 abbrev pub home_files : Files → Place → Read HomeFiles
-home_files files place = at_file files (active_file files place)
+home_files files place = project_files true files place
 
 -- the fault of a file that isn't there, or want of memory
 abbrev pub IsMissing : Path → RegFault → Type 0

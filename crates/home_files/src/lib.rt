@@ -1,6 +1,6 @@
-//! The two files of the active project that a command must have, and where they lie.
+//! The two files of the active project that a command reads, and where they lie.
 #![tactic(auto)]
 
 mod reading;
 
-pub use reading::{HomeFiles, home_files};
+pub use reading::{HomeFiles, home_files, project_files};

@@ -36,8 +36,29 @@ pub fn home_files<S: Store>(
     ensures later { S.read_faults store.old ≤ S.read_faults store.new }
     ensures other { S.write_faults store.new ≡ S.write_faults store.old }
 {
+    project_files(alloc, store, place, true)
+}
+
+/// The two files of the active project, of which the project file must be there, and the manifest where it is needed: the
+/// project file is read, then the manifest; one that isn't needed and isn't there is empty. (Pkg, Project.toml and
+/// Manifest.toml; where they lie: Julia manual, Code Loading.)
+///
+/// Errors: MissingFile and BadFile of the first of the two that must be there and isn't, or is refused; ReadFault, where the
+/// store can't read; want of memory.
+pub fn project_files<S: Store>(
+    alloc: Global,
+    store: &mut S,
+    place: &Place,
+    needed: bool,
+) -> Result<HomeFiles, RegFault>
+    ensures told { IfSome (S.files store.old) (λ all. MatchResult result (λ it. spec.project_files needed all place.now ≡ Ok (spec.seen it)) (Refuses (spec.project_files needed all place.now))) }
+    ensures fault { IfErr result (ReadFaultRose (S.read_faults store.old) (S.read_faults store.new)) }
+    ensures files { S.files store.new ≡ S.files store.old }
+    ensures later { S.read_faults store.old ≤ S.read_faults store.new }
+    ensures other { S.write_faults store.new ≡ S.write_faults store.old }
+{
     match active_project(alloc, store, place) {
-        Ok(file) => at_file(alloc, store, place, file),
+        Ok(file) => at_file(alloc, store, place, file, needed),
         Err(EnvFault::ReadFault(path)) => Err(RegFault::ReadFault(path)),
         Err(EnvFault::BadFile(..)) => unreachable!(),
         Err(EnvFault::Memory) => Err(RegFault::Memory),
@@ -49,15 +70,16 @@ fn at_file<S: Store>(
     store: &mut S,
     place: &Place,
     file: NormPath,
+    needed: bool,
 ) -> Result<HomeFiles, RegFault>
-    ensures told { IfSome (S.files store.old) (λ all. MatchResult result (λ it. spec.at_file all file ≡ Ok (spec.seen it)) (Refuses (spec.at_file all file))) }
+    ensures told { IfSome (S.files store.old) (λ all. MatchResult result (λ it. spec.at_file needed all file ≡ Ok (spec.seen it)) (Refuses (spec.at_file needed all file))) }
     ensures fault { IfErr result (ReadFaultRose (S.read_faults store.old) (S.read_faults store.new)) }
     ensures files { S.files store.new ≡ S.files store.old }
     ensures later { S.read_faults store.old ≤ S.read_faults store.new }
     ensures other { S.write_faults store.new ≡ S.write_faults store.old }
 {
     match project_at(alloc, store, &file) {
-        Ok(Some(project)) => with_project(alloc, store, place, file, project),
+        Ok(Some(project)) => with_project(alloc, store, place, file, project, needed),
         Ok(None) => Err(RegFault::MissingFile(file)),
         Err(EnvFault::ReadFault(path)) => Err(RegFault::ReadFault(path)),
         Err(EnvFault::BadFile(path, cause)) => Err(RegFault::BadFile(path, cause)),
@@ -72,15 +94,16 @@ fn with_project<S: Store>(
     place: &Place,
     file: NormPath,
     project: Project,
+    needed: bool,
 ) -> Result<HomeFiles, RegFault>
-    ensures told { IfSome (S.files store.old) (λ all. MatchResult result (λ it. spec.with_project all file (said_project project) ≡ Ok (spec.seen it)) (Refuses (spec.with_project all file (said_project project)))) }
+    ensures told { IfSome (S.files store.old) (λ all. MatchResult result (λ it. spec.with_project needed all file (said_project project) ≡ Ok (spec.seen it)) (Refuses (spec.with_project needed all file (said_project project)))) }
     ensures fault { IfErr result (ReadFaultRose (S.read_faults store.old) (S.read_faults store.new)) }
     ensures files { S.files store.new ≡ S.files store.old }
     ensures later { S.read_faults store.old ≤ S.read_faults store.new }
     ensures other { S.write_faults store.new ≡ S.write_faults store.old }
 {
     match manifest_path(alloc, store, place, &file, &project) {
-        Ok(path) => with_manifest(alloc, store, file, project, path),
+        Ok(path) => with_manifest(alloc, store, file, project, path, needed),
         Err(EnvFault::ReadFault(path)) => Err(RegFault::ReadFault(path)),
         Err(EnvFault::BadFile(path, cause)) => Err(RegFault::BadFile(path, cause)),
         Err(EnvFault::Memory) => Err(RegFault::Memory),
@@ -93,14 +116,15 @@ fn with_manifest<S: Store>(
     file: NormPath,
     project: Project,
     path: NormPath,
+    needed: bool,
 ) -> Result<HomeFiles, RegFault>
-    ensures told { IfSome (S.files store.old) (λ all. MatchResult result (λ it. spec.with_manifest all file (said_project project) path ≡ Ok (spec.seen it)) (Refuses (spec.with_manifest all file (said_project project) path))) }
+    ensures told { IfSome (S.files store.old) (λ all. MatchResult result (λ it. spec.with_manifest needed all file (said_project project) path ≡ Ok (spec.seen it)) (Refuses (spec.with_manifest needed all file (said_project project) path))) }
     ensures fault { IfErr result (ReadFaultRose (S.read_faults store.old) (S.read_faults store.new)) }
     ensures files { S.files store.new ≡ S.files store.old }
     ensures later { S.read_faults store.old ≤ S.read_faults store.new }
     ensures other { S.write_faults store.new ≡ S.write_faults store.old }
 {
-    match manifest_needed(alloc, store, &path) {
+    match manifest_by(alloc, store, &path, needed) {
         Ok(manifest) => Ok(HomeFiles {
             home: Home {
                 project: file,
@@ -110,6 +134,26 @@ fn with_manifest<S: Store>(
             manifest,
         }),
         Err(fault) => Err(fault),
+    }
+}
+
+/// The manifest at a path, and whether it must be there; one that need not be there and isn't is empty.
+fn manifest_by<S: Store>(
+    alloc: Global,
+    store: &mut S,
+    path: &NormPath,
+    needed: bool,
+) -> Result<Manifest, RegFault>
+    ensures told { IfSome (S.files store.old) (λ all. MatchResult result (λ manifest. spec.manifest_by needed all path.now ≡ Ok (said_manifest manifest)) (Refuses (spec.manifest_by needed all path.now))) }
+    ensures fault { IfErr result (ReadFaultRose (S.read_faults store.old) (S.read_faults store.new)) }
+    ensures files { S.files store.new ≡ S.files store.old }
+    ensures later { S.read_faults store.old ≤ S.read_faults store.new }
+    ensures other { S.write_faults store.new ≡ S.write_faults store.old }
+{
+    if needed {
+        manifest_needed(alloc, store, path)
+    } else {
+        manifest_read(alloc, store, path)
     }
 }
 

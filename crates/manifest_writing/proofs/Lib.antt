@@ -1,3 +1,4 @@
 mod Keyed
+mod Nests
 mod Placed
 mod Said

@@ -5,6 +5,8 @@ mod laws;
 mod manifest;
 mod order;
 mod stanza;
+mod text;
 
 pub use laws::{selection_is_said, stanzas_rise, stanzas_say_offers};
 pub use manifest::{FoundExtensions, written};
+pub use text::manifest_text;

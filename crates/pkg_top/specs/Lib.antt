@@ -1,4 +1,5 @@
 pub mod WhichDue
 pub mod Due
+pub mod Left
 pub mod Placing
 pub mod PlaceViews

@@ -1,30 +1,40 @@
 //! The top call.
-ghost use Rattle.std.specs.Prelude.{◌≡◌, ◌≤◌, IfSome, IfErr, string_bytes};
-ghost use Rattle.pkg_top.specs.Due.{IsDue, PrintsBy, early_due};
+ghost use Rattle.std.specs.Prelude.{◌≡◌, ◌≤◌, None, IfSome, IfErr};
+ghost use Rattle.command_answers.specs.Answers.{AnswersTimely, IsLate, IsTimely, ReadFaultRose, WriteFaultRose, SinkFaultRose, PrintsOnlyAtOk, IsUnprinted, Tells};
+ghost use Rattle.command_answers.specs.Endings.{EndsBy};
 ghost use Rattle.check_command.specs.Answered.{AnswersBy};
-ghost use Rattle.command_answers.specs.Lines.{status_line as line_of};
-ghost use Rattle.command_words.specs.Seen.{texts};
-ghost use Rattle.command_answers.specs.Answers.{AnswersTimely, IsTimely, ReadFaultRose, SinkFaultRose, PrintsOnlyAtOk, IsPrinted, IsRefusal, IsUnprinted, Tells, TellsLine};
+ghost use Rattle.command_words.specs.Seen.{asked_of, texts};
+ghost use Rattle.command_words.specs.Words.{asked as meant};
+ghost use Rattle.pkg_top.specs.Due.{IsReading, IsAnswerOf, IsEndingOf, IsDue, IsEndingWith, IsStill, early_of, early_due};
+ghost use Rattle.pkg_top.specs.Left.{Ends};
 
 use crate::early::asked_for;
+use crate::telling::refuse;
 use crate::which::which;
+use crate::writing::finish;
 use check_command::check;
-use command_answers::{Ended, Status, Told, status_line};
+use command_answers::{Ended, Ending, Status, Writes};
 use command_words::Asked;
+use edit_commands::resolve_project;
 use home_commands::{status_lines, verify};
 use offers_command::offers;
-use pkg_world::{Place, PutAnswer, Sink, Store};
+use pkg_world::{Place, Sink, Store};
 use std::alloc::Global;
 
-/// Runs one command: the words after the program's name, at a place, over a store. At Ok the answer goes to `out` in
-/// one piece; at every other status one line goes to `err`, and `out` gets nothing (a prefix at SinkFault).
+/// Runs one command: the words after the program's name, at a place, over a store. At Ok the files that the command
+/// replaces are replaced, in their order, and then the answer goes to `out` in one piece; at every other status one line goes
+/// to `err`, and `out` gets nothing (a prefix at SinkFault).
 ///
-/// Where the store tells its files, status and text are those that the definitions give for them, by the command: `which`
+/// Where the store tells its files, status, text and files are those that the definitions give for them, by the command: `which`
 /// answers the import of a name from a context over the environments of the load path (Julia manual, Code Loading), `status` tells
 /// the stanzas of its dependencies, `offers` the versions that registries list under a name, `verify` whether an
-/// installed tree is the manifest's (Git's object format), and `check` whether what the manifest says is valid for the offers of
-/// the files and the project's demand, and what could be raised (Pkg, Compatibility). No file is replaced.
-/// ReadFault and SinkFault come only where the store's and the sink's counts of faults rose, and want of memory is free.
+/// installed tree is the manifest's (Git's object format), `check` whether what the manifest says is valid for the offers of
+/// the files and the project's demand, and what could be raised, and `resolve` replaces the manifest by such a selection, in
+/// which nothing can be raised (Pkg, Compatibility). The first five replace no file.
+///
+/// A refusal leaves all files as they were, but for these: at WriteFault and Blocked, which carry a path that was to be
+/// replaced, the files before it are replaced; at SinkFault all are; and at Memory the first few may be.
+/// ReadFault, WriteFault and SinkFault come only where the store's and the sink's counts of faults rose, and want of memory is free.
 pub fn run<S: Store, O: Sink, E: Sink>(
     alloc: Global,
     words: &[String],
@@ -33,33 +43,36 @@ pub fn run<S: Store, O: Sink, E: Sink>(
     out: &mut O,
     err: &mut E,
 ) -> Ended
-    ensures due { IfSome (S.files store.old) (λ all. PrintsBy (IsDue all place.now (texts words.now)) (O.text out.old) (O.text out.new) result.status) }
+    ensures due { IfSome (S.files store.old) (λ all. Ends (IsDue all place.now (texts words.now)) (S.files store.old) (S.files store.new) (O.text out.old) (O.text out.new) result.status) }
     ensures timely { IsTimely (early_due (texts words.now)) result.status }
     ensures quiet { PrintsOnlyAtOk (O.text out.old) (O.text out.new) result.status }
     ensures told { Tells (E.text err.old) (E.text err.new) (E.faults err.old) (E.faults err.new) result.status result.told }
     ensures read_fault { ReadFaultRose (S.read_faults store.old) (S.read_faults store.new) result.status }
+    ensures write_fault { WriteFaultRose (S.write_faults store.old) (S.write_faults store.new) result.status }
     ensures sink_fault { SinkFaultRose (O.faults out.old) (O.faults out.new) result.status }
-    ensures files { S.files store.new ≡ S.files store.old }
+    ensures reads { IsReading (meant (texts words.now)) → (S.files store.new ≡ S.files store.old) × (S.write_faults store.new ≡ S.write_faults store.old) }
+    ensures untold { S.files store.old ≡ None → S.files store.new ≡ None }
     ensures later { S.read_faults store.old ≤ S.read_faults store.new }
-    ensures other { S.write_faults store.new ≡ S.write_faults store.old }
+    ensures write_later { S.write_faults store.old ≤ S.write_faults store.new }
     ensures out_later { O.faults out.old ≤ O.faults out.new }
     ensures err_later { E.faults err.old ≤ E.faults err.new }
 {
     match answer(alloc, words, place, store) {
-        Ok(line) => print(alloc, &line, out, err),
+        Ok(ending) => finish(alloc, &ending, store, out, err),
         Err(status) => refuse(alloc, status, err),
     }
 }
 
-/// The line of a command, or its refusal.
+/// How a command ends well, or its refusal; nothing is replaced yet.
 fn answer<S: Store>(
     alloc: Global,
     words: &[String],
     place: &Place,
     store: &mut S,
-) -> Result<String, Status>
-    ensures answer { IfSome (S.files store.old) (λ all. AnswersBy (IsDue all place.now (texts words.now)) result) }
+) -> Result<Ending, Status>
+    ensures answer { IfSome (S.files store.old) (λ all. EndsBy (IsDue all place.now (texts words.now)) result) }
     ensures timely { AnswersTimely (early_due (texts words.now)) result }
+    ensures still { IsStill (meant (texts words.now)) result }
     ensures fault { IfErr result (ReadFaultRose (S.read_faults store.old) (S.read_faults store.new)) }
     ensures unprinted { IfErr result IsUnprinted }
     ensures files { S.files store.new ≡ S.files store.old }
@@ -67,56 +80,74 @@ fn answer<S: Store>(
     ensures other { S.write_faults store.new ≡ S.write_faults store.old }
 {
     match asked_for(alloc, words) {
-        Ok(Asked::Which(name, context)) => which(alloc, &name, &context, place, store),
-        Ok(Asked::Offers(name)) => offers(alloc, &name, place, store),
-        Ok(Asked::Status(all)) => status_lines(alloc, all, place, store),
-        Ok(Asked::Verify(name, list)) => verify(alloc, &name, &list, place, store),
-        Ok(Asked::Check) => check(alloc, place, store),
-        Ok(Asked::BadWords(_)) => unreachable!(),
-        Ok(Asked::NotBuilt(_)) => unreachable!(),
+        Ok(asked) => answer_to(alloc, asked, place, store),
         Err(status) => Err(status),
     }
 }
 
-/// Prints the line of Ok.
-fn print<O: Sink, E: Sink>(alloc: Global, line: &String, out: &mut O, err: &mut E) -> Ended
-    ensures printed { IsPrinted (string_bytes line.now) (O.text out.old) (O.text out.new) result.status }
-    ensures told { Tells (E.text err.old) (E.text err.new) (E.faults err.old) (E.faults err.new) result.status result.told }
-    ensures sink_fault { SinkFaultRose (O.faults out.old) (O.faults out.new) result.status }
-    ensures out_later { O.faults out.old ≤ O.faults out.new }
-    ensures err_later { E.faults err.old ≤ E.faults err.new }
+/// The same of what is asked, which the words alone don't refuse.
+fn answer_to<S: Store>(
+    alloc: Global,
+    asked: Asked,
+    place: &Place,
+    store: &mut S,
+) -> Result<Ending, Status>
+    requires { early_of (asked_of asked) ≡ None }
+    ensures answer { IfSome (S.files store.old) (λ all. EndsBy (IsEndingOf all place.now (asked_of asked)) result) }
+    ensures still { IsStill (asked_of asked) result }
+    ensures late { IfErr result IsLate }
+    ensures fault { IfErr result (ReadFaultRose (S.read_faults store.old) (S.read_faults store.new)) }
+    ensures unprinted { IfErr result IsUnprinted }
+    ensures files { S.files store.new ≡ S.files store.old }
+    ensures later { S.read_faults store.old ≤ S.read_faults store.new }
+    ensures other { S.write_faults store.new ≡ S.write_faults store.old }
 {
-    match out.put(alloc, line.as_bytes()) {
-        PutAnswer::Done => Ended {
-            status: Status::Ok,
-            told: Told::Whole,
-        },
-        PutAnswer::Failed => refuse(alloc, Status::SinkFault, err),
-        PutAnswer::Memory => refuse(alloc, Status::Memory, err),
+    match asked {
+        Asked::Resolve { budget, classes } => {
+            resolve_project(alloc, place, budget, classes, store)
+        }
+        asked => ending_with(alloc, reading(alloc, asked, place, store)),
     }
 }
 
-/// Ends with a refusal, whose line goes to the sink of errors.
-fn refuse<E: Sink>(alloc: Global, status: Status, err: &mut E) -> Ended
-    requires { IsRefusal status }
-    ensures status { result.status ≡ status }
-    ensures told { Tells (E.text err.old) (E.text err.new) (E.faults err.old) (E.faults err.new) result.status result.told }
-    ensures err_later { E.faults err.old ≤ E.faults err.new }
+/// The ending of a line, which replaces no file.
+fn ending_with(alloc: Global, answer: Result<String, Status>) -> Result<Ending, Status>
+    ensures { IsEndingWith answer result }
 {
-    let told = tell(alloc, &status, err);
-    Ended { status, told }
+    match answer {
+        Ok(line) => Ok(Ending {
+            line,
+            writes: Writes::make(alloc),
+        }),
+        Err(status) => Err(status),
+    }
 }
 
-fn tell<E: Sink>(alloc: Global, status: &Status, err: &mut E) -> Told
-    ensures told { TellsLine (line_of status.now) (E.text err.old) (E.text err.new) (E.faults err.old) (E.faults err.new) result }
-    ensures err_later { E.faults err.old ≤ E.faults err.new }
+/// The line of a command that replaces no file, or its refusal.
+fn reading<S: Store>(
+    alloc: Global,
+    asked: Asked,
+    place: &Place,
+    store: &mut S,
+) -> Result<String, Status>
+    requires early { early_of (asked_of asked) ≡ None }
+    requires reads { IsReading (asked_of asked) }
+    ensures answer { IfSome (S.files store.old) (λ all. AnswersBy (IsAnswerOf all place.now (asked_of asked)) result) }
+    ensures late { IfErr result IsLate }
+    ensures fault { IfErr result (ReadFaultRose (S.read_faults store.old) (S.read_faults store.new)) }
+    ensures unprinted { IfErr result IsUnprinted }
+    ensures files { S.files store.new ≡ S.files store.old }
+    ensures later { S.read_faults store.old ≤ S.read_faults store.new }
+    ensures other { S.write_faults store.new ≡ S.write_faults store.old }
 {
-    match status_line(alloc, status) {
-        Ok(line) => match err.put(alloc, line.as_bytes()) {
-            PutAnswer::Done => Told::Whole,
-            PutAnswer::Failed => Told::Failed,
-            PutAnswer::Memory => Told::Memory,
-        },
-        Err(_) => Told::Memory,
+    match asked {
+        Asked::Which(name, context) => which(alloc, &name, &context, place, store),
+        Asked::Offers(name) => offers(alloc, &name, place, store),
+        Asked::Status(all) => status_lines(alloc, all, place, store),
+        Asked::Verify(name, list) => verify(alloc, &name, &list, place, store),
+        Asked::Check => check(alloc, place, store),
+        Asked::Resolve { .. } => unreachable!(),
+        Asked::BadWords(_) => unreachable!(),
+        Asked::NotBuilt(_) => unreachable!(),
     }
 }

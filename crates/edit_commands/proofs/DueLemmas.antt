@@ -1,0 +1,106 @@
+-- What is found by a book that was gathered is due by the offers of all packages.
+use Rattle.std.proofs.Common.{◌≡◌, ℕ, Bool, true, List, [], Result, Ok, Err, sym, subst}
+use Rattle.std.specs.Prelude.{Contains, is_some}
+use Rattle.jl_versions.specs.declared.version.Version.{Version}
+use Rattle.pkg_world.specs.Path.{Path}
+use Rattle.pkg_world.specs.Tree.{Files}
+use Rattle.offer_terms.specs.Offered.{Text, Id, Offering, Offers, Selected, cut_to}
+use Rattle.offer_terms.specs.Booked.{Packed, book_offers}
+use Rattle.offer_terms.specs.Demanded.{Wanted}
+use Rattle.offer_terms.specs.Feasible.{IsFeasible, IsValid, CanRaise}
+use Rattle.offer_catalog.specs.SaidCatalog.{SaidCatalog}
+use Rattle.offer_book.specs.Scope.{scope}
+use Rattle.offer_book.specs.AllOffers.{all_offers}
+use Rattle.offer_book.specs.Gathered.{gathered}
+use Rattle.offer_book.specs.Laws.{IsReached, is_in, BookOffersAreAll, NumbersAreReached, FeasibleInBook, ValidAlike, RaisedAlike}
+use Rattle.pkg_world.specs.Listing.{Listing}
+use Rattle.refutation_log.specs.declared.node.Node.{Node}
+use Rattle.instance_search.specs.declared.answer.Answer.TheVariants.{Empty, Spent}
+use Rattle.book_graph.specs.StandsFor.{IsBook, Covers}
+use Rattle.resolve_core.specs.Resolved.{IsAnswer}
+use Rattle.resolve_core.specs.Laws.{ResolvedIsBest, UnsatisfiableIsNone, GivenUpIsSpent}
+use Rattle.command_answers.specs.Endings.{SaidEnding}
+use Rattle.command_answers.specs.declared.status.Status.{Status}
+use Rattle.command_answers.specs.declared.status.Status.TheVariants.{Ok as StatusOk, BadWords, MissingFile, BadFile, NeedsFetch, NoIdentity, NoSource, Unsatisfiable, GaveUp, ReadFault, WriteFault, Blocked, UnknownName, UnknownPackage, AmbiguousName, Limit, Differs, NotInManifest, WrongJulia, NotBuilt, Memory, SinkFault}
+use Rattle.edit_commands.specs.ResolveDue.{Question, Posed, question_of, IsFoundEnding, IsStopped, IsFound, IsEnding, IsNone, IsSpent, IsRefusal, IsAnswerTo}
+
+module _ (offers_law : BookOffersAreAll) (numbers_law : NumbersAreReached) (valid_law : ValidAlike) (raised_law : RaisedAlike) (cut_law : FeasibleInBook)
+    (best_law : ResolvedIsBest) (none_law : UnsatisfiableIsNone) (spent_law : GivenUpIsSpent)
+    (files : Files) (catalog : SaidCatalog) (w : Wanted) (path : Path) (book : List Packed) (gathers : gathered files catalog (scope w) [] ≡ Ok book) (sound : IsBook book)
+    (budget : ℕ) where
+  abbrev over_all : Posed
+  over_all = record { offers = all_offers files catalog (scope w); question = question_of w path book }
+
+  reached : (u : Id) → is_in book u ≡ true → IsReached (all_offers files catalog (scope w)) (scope w) [] u
+  reached u here = (numbers_law files catalog (scope w) [] book u gathers).0 here
+
+  numbered : (u : Id) → IsReached (all_offers files catalog (scope w)) (scope w) [] u → is_in book u ≡ true
+  numbered u there = (numbers_law files catalog (scope w) [] book u gathers).1 there
+
+  offered : (u : Id) (x : Offering) → is_in book u ≡ true → Contains (book_offers book u) x → Contains (all_offers files catalog (scope w) u) x
+  offered u x here there = subst (λ xs. Contains xs x) (offers_law files catalog (scope w) [] book u gathers here) there
+
+  leads : (u : Id) (x : Offering) (d : Text × Id) → is_in book u ≡ true → Contains (book_offers book u) x → Contains x.deps d
+      → IsReached (all_offers files catalog (scope w)) (scope w) [] d.1
+  leads u x d here there dep = record { in_each = λ set closed. closed.needs u x d ((reached u here).in_each set closed) (offered u x here there) dep }
+
+  -- the book holds the roots, and what its offers depend on
+  covers : Covers book w
+  covers = record {
+    roots = λ r there. numbered r.1 (record { in_each = λ set closed. closed.roots r there });
+    needs = λ u x d here there dep other. numbered d.1 (leads u x d here there dep);
+  }
+
+  ending : (classes : Bool) (e : SaidEnding) → IsFoundEnding (question_of w path book) budget classes e → IsEnding over_all budget classes e
+  ending classes e found =
+      let s : Selected = found.resolved.selection.items in
+      let best = best_law book w budget found.resolved sound covers found.tells.resolves in
+      let valid : IsValid (all_offers files catalog (scope w)) w s = (valid_law files catalog w [] book s gathers).0 best.0 in
+      record {
+        resolved = found.resolved;
+        tells = found.tells;
+        valid = valid;
+        best = λ u v can. best.1 u v ((raised_law files catalog w [] book s u v gathers valid).1 can);
+      }
+
+  none : (log : Listing Node) → IsAnswer book w budget (Empty log) → IsNone over_all budget log
+  none log answer =
+      let law = none_law book w budget log sound answer in
+      record {
+        answer = answer;
+        certificate = law.1;
+        none = λ s feasible. law.0 (cut_to (is_in book) s) (cut_law files catalog w [] book s gathers feasible);
+      }
+
+  spent : (log : Listing Node) → IsAnswer book w budget (Spent log) → IsSpent over_all budget log
+  spent log answer =
+      let law = spent_law book w budget log answer in
+      record { answer = answer; spent = law.0; below = law.1 }
+
+  refusal : (status : Status) → IsStopped (question_of w path book) budget status → IsRefusal over_all budget status
+  refusal StatusOk h = h
+  refusal (BadWords word) h = h
+  refusal (MissingFile at) h = h
+  refusal (BadFile at cause) h = h
+  refusal (NeedsFetch name) h = h
+  refusal (NoIdentity name) h = h
+  refusal (NoSource uuid) h = h
+  refusal (Unsatisfiable log) h = none log h
+  refusal (GaveUp log) h = spent log h
+  refusal (ReadFault at) h = h
+  refusal (WriteFault at) h = h
+  refusal (Blocked at) h = h
+  refusal (UnknownName name) h = h
+  refusal (UnknownPackage uuid) h = h
+  refusal (AmbiguousName first second) h = h
+  refusal (Limit kind count) h = h
+  refusal (Differs difference) h = h
+  refusal (NotInManifest name) h = h
+  refusal (WrongJulia text) h = h
+  refusal (NotBuilt word) h = h
+  refusal Memory h = h
+  refusal SinkFault h = h
+
+  pub due : (classes : Bool) (answer : Result SaidEnding Status) → IsFound (question_of w path book) budget classes answer → IsAnswerTo over_all budget classes answer
+  due classes (Ok e) h = ending classes e h
+  due classes (Err status) h = refusal status h

@@ -1,0 +1,2 @@
+pub mod ResolveDue
+pub mod Laws

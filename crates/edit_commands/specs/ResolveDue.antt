@@ -1,0 +1,148 @@
+-- What `resolve` is due to end with: a line, and a manifest that says a selection which is valid for the offers of the files
+-- and the demand of the project and in which no package can be raised alone. (Pkg, Compatibility and Manifest.toml; the order
+-- of refusals, raising and the lines are own rules.)
+--     IsDue files place budget classes answer     this ending is due, or this refusal
+-- The refusals come in this order: the project file, which must be there, and the manifest, which is empty where it isn't
+-- there; the files of the catalog; Julia's version, and then what is to be fetched; the tables of the packages that are reached
+-- from the roots, roots without a source, and too many packages; the limits of instances; and then that no selection is
+-- feasible, or that the budget is spent.
+use Rattle.std.specs.Prelude.{◌≡◌, ℕ, ◌<◌, Bool, true, false, List, [], ◌∷◌, ◌++◌, map, length, Result, Ok, Err}
+use Rattle.jl_versions.specs.declared.version.Version.{Version}
+use Rattle.pkg_world.specs.Each.{then_ok}
+use Rattle.pkg_world.specs.Listing.{Listing}
+use Rattle.pkg_world.specs.Path.{Path}
+use Rattle.pkg_world.specs.Tree.{Files}
+use Rattle.pkg_world.specs.declared.place.Place.{Place}
+use Rattle.toml_view.specs.Document.{viewed}
+use Rattle.manifest_file.specs.Saying.{read_of}
+use Rattle.manifest_file.specs.Written.{written as table_of}
+use Rattle.offer_terms.specs.Offered.{Id, Offers, Selected}
+use Rattle.offer_terms.specs.Booked.{Packed}
+use Rattle.offer_terms.specs.Demanded.{Wanted}
+use Rattle.offer_terms.specs.Feasible.{IsFeasible, IsValid, CanRaise}
+use Rattle.offer_catalog.specs.SaidCatalog.{SaidCatalog}
+use Rattle.offer_book.specs.Scope.{scope}
+use Rattle.offer_book.specs.AllOffers.{all_offers}
+use Rattle.refutation_log.specs.declared.node.Node.{Node}
+use Rattle.instance_search.specs.declared.answer.Answer.TheVariants.{Empty, Spent}
+use Rattle.version_graph.specs.declared.fault.GraphFault.TheVariants as limits
+use Rattle.book_graph.specs.Limits.{IsPast}
+use Rattle.resolve_core.specs.Resolved.{IsAnswer, IsResolved}
+use Rattle.resolve_core.specs.Laws.{IsCertificate, most_nodes}
+use Rattle.resolve_core.specs.Classed.{AreClassesOf, class_said}
+use Rattle.resolve_core.specs.declared.classing.Class.{Class}
+use Rattle.resolve_core.specs.declared.resolved.Resolved.{Resolved}
+use Rattle.manifest_writing.specs.Writing.{written}
+use Rattle.resolve_lines.specs.Lines.{resolved_line, class_lines}
+use Rattle.pkg_commands.specs.declared.command.Command.TheVariants.{Resolve}
+use Rattle.command_answers.specs.Endings.{SaidEnding}
+use Rattle.command_answers.specs.declared.status.Status.{Status}
+use Rattle.command_answers.specs.declared.status.Status.TheVariants.{Unsatisfiable, GaveUp, Limit}
+use Rattle.project_phases.specs.Phases.{Opened, opened_in, edited_as, booked_in}
+
+-- ---- what is to be resolved, or the first refusal
+
+-- a demand, the book that is gathered for it, and where the manifest lies
+pub record Question : Type 0 where
+  pub wanted : Wanted
+  pub book : List Packed
+  pub manifest : Path
+
+-- beside the offers of all packages
+pub record Posed : Type 0 where
+  pub offers : Offers
+  pub question : Question
+
+abbrev pub question_of : Wanted → Path → List Packed → Question
+question_of w path book = record { wanted = w; book = book; manifest = path }
+
+-- the book is gathered with no packages beside the roots
+abbrev pub with_demand : Files → SaidCatalog → Wanted → Result Posed Status
+with_demand files catalog w =
+    then_ok (booked_in files catalog w []) (λ book. Ok (record { offers = all_offers files catalog (scope w); question = question_of w catalog.home.manifest book }))
+
+abbrev pub with_opened : Files → Place → Opened → Result Posed Status
+with_opened files place it = then_ok (edited_as Resolve place it) (λ edit. with_demand files it.catalog edit.demand)
+
+abbrev pub posed_in : Files → Place → Result Posed Status
+posed_in files place = then_ok (opened_in false files place) (with_opened files place)
+
+-- ---- how what is resolved is told
+
+-- the classes, and then the line of what is resolved
+pub record HasClasses (book : List Packed) (w : Wanted) (resolved : Resolved) (line : List ℕ) : Type 0 where
+  pub table : List Class
+  pub classes : AreClassesOf book w table
+  pub told : line ≡ class_lines book (map class_said table) ++ resolved_line (length resolved.selection.items) resolved.nodes
+
+-- the line, and whether the classes come first
+abbrev pub IsLine : List Packed → Wanted → Bool → Resolved → List ℕ → Type 0
+IsLine book w false resolved line = line ≡ resolved_line (length resolved.selection.items) resolved.nodes
+IsLine book w true resolved line = HasClasses book w resolved line
+
+-- the manifest alone is replaced, by a text that says the selection and reads back so; no extensions are looked for in trees
+pub record IsWritten (q : Question) (s : Selected) (writes : List (Path × List ℕ)) : Type 0 where
+  pub text : List ℕ
+  pub only : writes ≡ (q.manifest, text) ∷ []
+  pub says : viewed text ≡ Ok (table_of (written q.book q.wanted [] s))
+  pub reads : read_of text ≡ Ok (written q.book q.wanted [] s)
+
+-- what the question is resolved to within the budget, and how this is told
+pub record Tells (q : Question) (budget : ℕ) (classes : Bool) (resolved : Resolved) (e : SaidEnding) : Type 0 where
+  pub resolves : IsResolved q.book q.wanted budget resolved
+  pub line : IsLine q.book q.wanted classes resolved e.line
+  pub writes : IsWritten q resolved.selection.items e.writes
+
+-- ---- the answer
+
+-- the selection is valid, and no package of it can be raised alone
+pub record IsEnding (it : Posed) (budget : ℕ) (classes : Bool) (e : SaidEnding) : Type 0 where
+  pub resolved : Resolved
+  pub tells : Tells it.question budget classes resolved e
+  pub valid : IsValid it.offers it.question.wanted resolved.selection.items
+  pub best : (u : Id) (v : Version) → CanRaise it.offers it.question.wanted resolved.selection.items u v → ⊥
+
+-- no selection is feasible; the search within the budget shows it by a log, which is a certificate
+pub record IsNone (it : Posed) (budget : ℕ) (log : Listing Node) : Type 0 where
+  pub answer : IsAnswer it.question.book it.question.wanted budget (Empty log)
+  pub certificate : IsCertificate it.question.book it.question.wanted log.items
+  pub none : (s : Selected) → IsFeasible it.offers it.question.wanted s → ⊥
+
+-- the search spends the budget before it finds a solution; a budget that is as great as this product is never spent
+pub record IsSpent (it : Posed) (budget : ℕ) (log : Listing Node) : Type 0 where
+  pub answer : IsAnswer it.question.book it.question.wanted budget (Spent log)
+  pub spent : length log.items ≡ budget
+  pub below : budget < most_nodes it.question.book
+
+abbrev pub IsRefusal : Posed → ℕ → Status → Type 0
+IsRefusal it budget (Unsatisfiable log) = IsNone it budget log
+IsRefusal it budget (GaveUp log) = IsSpent it budget log
+IsRefusal it budget (Limit kind count) = IsPast it.question.book it.question.wanted (limits.Limit kind count)
+IsRefusal it budget _ = ⊥
+
+abbrev pub IsAnswerTo : Posed → ℕ → Bool → Result SaidEnding Status → Type 0
+IsAnswerTo it budget classes (Ok e) = IsEnding it budget classes e
+IsAnswerTo it budget classes (Err status) = IsRefusal it budget status
+
+abbrev pub IsAnswerOn : Result Posed Status → ℕ → Bool → Result SaidEnding Status → Type 0
+IsAnswerOn (Ok it) budget classes answer = IsAnswerTo it budget classes answer
+IsAnswerOn (Err refusal) budget classes answer = answer ≡ Err refusal
+
+abbrev pub IsDue : Files → Place → ℕ → Bool → Result SaidEnding Status → Type 0
+IsDue files place budget classes answer = IsAnswerOn (posed_in files place) budget classes answer
+
+-- ---- the answer by the book alone
+
+pub record IsFoundEnding (q : Question) (budget : ℕ) (classes : Bool) (e : SaidEnding) : Type 0 where
+  pub resolved : Resolved
+  pub tells : Tells q budget classes resolved e
+
+abbrev pub IsStopped : Question → ℕ → Status → Type 0
+IsStopped q budget (Unsatisfiable log) = IsAnswer q.book q.wanted budget (Empty log)
+IsStopped q budget (GaveUp log) = IsAnswer q.book q.wanted budget (Spent log)
+IsStopped q budget (Limit kind count) = IsPast q.book q.wanted (limits.Limit kind count)
+IsStopped q budget _ = ⊥
+
+abbrev pub IsFound : Question → ℕ → Bool → Result SaidEnding Status → Type 0
+IsFound q budget classes (Ok e) = IsFoundEnding q budget classes e
+IsFound q budget classes (Err status) = IsStopped q budget status

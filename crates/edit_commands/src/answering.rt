@@ -1,0 +1,83 @@
+//! What a demand is resolved to over its book, and how this ends the command.
+ghost use Rattle.std.specs.Prelude.{IfOk, IfErr};
+ghost use Rattle.offer_terms.specs.Demanded.{wanted};
+ghost use Rattle.book_graph.specs.Limits.{IsPast};
+ghost use Rattle.book_graph.specs.StandsFor.{IsBook};
+ghost use Rattle.resolve_core.specs.Resolved.{IsResolved};
+ghost use Rattle.command_answers.specs.Answers.{NoFault, IsLate, IsUnprinted};
+ghost use Rattle.command_answers.specs.Endings.{EndsBy, said_ending};
+ghost use Rattle.edit_commands.specs.ResolveDue as spec;
+
+use crate::options::Options;
+use crate::telling::{line_of, writes_of};
+use command_answers::{Ending, Status};
+use offer_book::{Book, Catalog, Demand};
+use resolve_core::{ResolveFault, Resolved, resolve};
+use std::alloc::Global;
+use version_graph::GraphFault;
+
+/// The ending of the command by the book of its demand, which is let go.
+pub(crate) fn of_book(
+    alloc: Global,
+    options: Options,
+    catalog: &Catalog,
+    demand: &Demand,
+    book: Book,
+) -> Result<Ending, Status>
+    ensures answer { EndsBy (spec.IsFound (spec.question_of (wanted demand.now) catalog.now.home.manifest book) options.budget options.classes) result }
+    ensures sound { IsBook book }
+    ensures late { IfErr result IsLate }
+    ensures unprinted { IfErr result IsUnprinted }
+    ensures fault { IfErr result NoFault }
+{
+    match resolve(alloc, &book, demand, options.budget) {
+        Ok(resolved) => of_resolved(alloc, options, catalog, demand, &book, &resolved),
+        Err(ResolveFault::Unsatisfiable(log)) => Err(Status::Unsatisfiable(log)),
+        Err(ResolveFault::GaveUp(log)) => Err(Status::GaveUp(log)),
+        Err(ResolveFault::Limit(kind, count)) => Err(Status::Limit(kind, count)),
+        Err(ResolveFault::Memory) => Err(Status::Memory),
+    }
+}
+
+/// The ending by what the demand is resolved to.
+fn of_resolved(
+    alloc: Global,
+    options: Options,
+    catalog: &Catalog,
+    demand: &Demand,
+    book: &Book,
+    resolved: &Resolved,
+) -> Result<Ending, Status>
+    requires { IsResolved book.now (wanted demand.now) options.budget resolved.now }
+    ensures answer { EndsBy (spec.IsFound (spec.question_of (wanted demand.now) catalog.now.home.manifest book.now) options.budget options.classes) result }
+    ensures late { IfErr result IsLate }
+    ensures unprinted { IfErr result IsUnprinted }
+    ensures fault { IfErr result NoFault }
+{
+    match told(alloc, options, catalog, demand, book, resolved) {
+        Ok(ending) => Ok(ending),
+        Err(GraphFault::Limit(kind, count)) => Err(Status::Limit(kind, count)),
+        Err(GraphFault::Memory) => Err(Status::Memory),
+    }
+}
+
+/// The line of what is resolved, and the manifest that says it.
+fn told(
+    alloc: Global,
+    options: Options,
+    catalog: &Catalog,
+    demand: &Demand,
+    book: &Book,
+    resolved: &Resolved,
+) -> Result<Ending, GraphFault>
+    requires { IsResolved book.now (wanted demand.now) options.budget resolved.now }
+    ensures ok { IfOk result (λ ending. spec.Tells (spec.question_of (wanted demand.now) catalog.now.home.manifest book.now) options.budget options.classes resolved.now (said_ending ending)) }
+    ensures past { IfErr result (IsPast book.now (wanted demand.now)) }
+{
+    let line = match line_of(alloc, options.classes, demand, book, resolved) {
+        Ok(line) => line,
+        Err(fault) => return Err(fault),
+    };
+    let writes = writes_of(alloc, catalog, demand, book, &resolved.selection)?;
+    Ok(Ending { line, writes })
+}

@@ -1,0 +1,11 @@
+//! The phases of a command on a project before its packages are chosen, each told by the status with which it is refused.
+#![tactic(auto)]
+
+mod booking;
+mod editing;
+mod opening;
+mod refusals;
+
+pub use booking::gather_book;
+pub use editing::edit_project;
+pub use opening::{Opened, open_project};
