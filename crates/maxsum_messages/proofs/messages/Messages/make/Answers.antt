@@ -7,7 +7,7 @@ invariant_of-result g c =
     let sizes = c.in_ok-inbox.inbox.sizes in
     let count = c.greatest_size-count.result in
     let most : (p : ℕ) → p < length sizes → get_or sizes p 0 ≤ count =
-        subst (λ (xs : List ℕ). (p : ℕ) → p < length xs → get_or xs p 0 ≤ count) c.sizes.ensures c.greatest_size-count.ensures in
+    subst (λ (xs : List ℕ). (p : ℕ) → p < length xs → get_or xs p 0 ≤ count) c.sizes.ensures c.greatest_size-count.ensures in
     record {
       shaped = c.in_ok-next.ensures;
       enough = record {
