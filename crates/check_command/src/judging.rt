@@ -5,6 +5,7 @@ ghost use Rattle.offer_terms.specs.Demanded.{wanted};
 ghost use Rattle.offer_terms.specs.Feasible.{IsValid};
 ghost use Rattle.book_graph.specs.Limits.{IsPast, Fits};
 ghost use Rattle.command_answers.specs.Answers.{NoFault, IsLate, IsUnprinted};
+ghost use Rattle.selection_check.specs.Raises.{HasFewOffers};
 ghost use Rattle.selection_check.specs.Scratch.{IsScratchFor};
 ghost use Rattle.selection_check.specs.Verdicts.{IsFirstBreach};
 ghost use Rattle.check_command.specs.CheckDue as spec;
@@ -124,7 +125,7 @@ fn good_lines(
     scratch: &mut Scratch,
 ) -> Result<String, AllocError>
     requires valid { IsValid (book_offers book.now) (wanted demand.now) selection.now.items }
-    requires fits { Fits book.now (wanted demand.now) }
+    requires few { HasFewOffers book.now }
     requires made { IsScratchFor book.now scratch.old }
     ensures { IfOk result (λ text. spec.IsGood (spec.judged_by book.now (wanted demand.now) selection.now.items) (string_bytes text)) }
 {
