@@ -8,7 +8,7 @@ use Rattle.project_phases.specs.Phases as spec
 use Rattle.project_phases.proofs.RefusalLemmas.{catalog_refuses}
 use Rattle.project_phases.proofs.opening.of_files.Goals as goal
 
-pub returns-clause-told : goal.returns-in-Err-clause-told
+pub returns-clause-told : goal.returns-clause-told
 returns-clause-told g c =
     catalog_refuses (g.S.Store.files c.args.store.now)
     (λ all. catalogued all c.args.place.now c.args.files.home (said_project c.args.files.project) (said_manifest c.args.files.manifest))
