@@ -1,10 +1,10 @@
 -- The last stanza of a package is its only one, and says the selected version.
-use Rattle.std.proofs.Common.{◌≡◌, ℕ, zero, suc, ◌+◌, ◌<◌, Bool, true, false, cond, ◌&&◌, true≢false, T, List, [], ◌∷◌, length, find, Option, Some, None, IsSome, Ok, option_map, unwrap_or, Contains, Less, refl, sym, ap, ◌∙◌, subst, arith}
+use Rattle.std.proofs.Common.{◌≡◌, suc, Bool, true, false, cond, ◌&&◌, true≢false, T, List, [], ◌∷◌, find, Option, Some, None, IsSome, Ok, option_map, unwrap_or, Contains, Less, refl, sym, ap, ◌∙◌, subst, arith}
 use Rattle.std.specs.Cmp.Lexicographic.{nat_list_cmp_total}
 use Rattle.std.specs.FinMap.Entries.{find as found_at, below_all, is_sorted, same_entries}
 use Rattle.std.specs.List.{AllByRecursion}
 use Rattle.std.specs.List.Sorted.{IsStrictlySortedBy}
-use Rattle.std.specs.Map.{lookup, keys_of}
+use Rattle.std.specs.Map.{keys_of}
 use Rattle.std.specs.Option.{option_or, option_and_then}
 use Rattle.std.specs.Ordering.{is_lt}
 use Rattle.std.specs.Str.{bytes_eq}
@@ -18,7 +18,7 @@ use Rattle.package_tables.specs.Row.{by_bytes}
 use Rattle.manifest_file.specs.Saying.{SaidStanza}
 use Rattle.registry_tables.specs.Lasts.{last_of}
 use Rattle.offer_terms.specs.ById.{AreRising}
-use Rattle.offer_terms.specs.Booked.{Packed, book_offers}
+use Rattle.offer_terms.specs.Booked.{Packed}
 use Rattle.offer_terms.specs.Demanded.{Wanted}
 use Rattle.offer_terms.specs.Feasible.{IsFeasible}
 use Rattle.offer_terms.specs.Offered.{Id, Selected, version_in, is_of}
@@ -26,7 +26,6 @@ use Rattle.offer_catalog.specs.Laws.{LastStanzaIsSelected, SelectedRise}
 use Rattle.offer_catalog.specs.SaidCatalog.{SaidCatalog}
 use Rattle.offer_catalog.specs.Selected.{counts, given_version, version_of, selected_by}
 use Rattle.offer_book.specs.AllOffers.{all_offers, given, or_registries, offers_found}
-use Rattle.offer_book.specs.Gathered.{gathered}
 use Rattle.offer_book.specs.Laws.{FeasibleOverAll}
 use Rattle.offer_book.specs.Scope.{scope}
 use Rattle.manifest_writing.specs.Laws.{IsOnBook, SelectionIsSaid, StanzasSayOffers, SaysAnOffer}
