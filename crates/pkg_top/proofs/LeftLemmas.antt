@@ -1,12 +1,12 @@
--- How an ending is carried out, and what is left then.
-use Rattle.std.proofs.Common.{◌≡◌, ◌⊎◌, ℕ, List, [], ◌∷◌, ◌++◌, map, Option, Some, None, IfSome, Result, Ok, Err, refl, sym, ap, subst, inl, inr, arith}
+-- How files are replaced one after another, and where that stops.
+use Rattle.std.proofs.Common.{◌≡◌, ℕ, List, [], ◌∷◌, map, Option, Some, None, Result, Ok, Err, refl, sym, ap, subst, arith}
 use Rattle.pkg_world.specs.Outside.{written}
 use Rattle.pkg_world.specs.Tree.{Files}
 use Rattle.command_answers.specs.declared.ending.Write.{Write}
 use Rattle.command_answers.specs.declared.status.Status.{Status}
 use Rattle.command_answers.specs.declared.status.Status.TheVariants.{Ok as StatusOk, BadWords, MissingFile, BadFile, NeedsFetch, NoIdentity, NoSource, Unsatisfiable, GaveUp, ReadFault, WriteFault, Blocked, UnknownName, UnknownPackage, AmbiguousName, Limit, Differs, NotInManifest, WrongJulia, NotBuilt, Memory, SinkFault}
-use Rattle.command_answers.specs.Endings.{SaidWrite, SaidEnding, said_write, RefusesBy}
-use Rattle.pkg_top.specs.Left.{AreWritten, IsPartly, IsStopped, IsBlocked, Stops, Replaces, ReplacesOne, Finishes, Does, Leaves, Ends}
+use Rattle.command_answers.specs.Endings.{SaidWrite, said_write}
+use Rattle.pkg_top.specs.Left.{AreWritten, IsStopped, Stops, Replaces, ReplacesOne}
 
 -- ---- replacing
 
@@ -128,66 +128,3 @@ pub next_stops : (all : List SaidWrite) (first here new : Option Files) (rest mo
     → ReplacesOne (said_write next) here new (Err status) → Replaces all first new (Err status)
 next_stops all first here new rest more next status split onward one =
     onward new (Err status) (subst (λ l. Replaces (map said_write l) here new (Err status)) (sym split) (stops_first (said_write next) (map said_write more) here new status one))
-
--- ---- how a command ends
-
-does : (IsDue : Result SaidEnding Status → Type 0) (it : SaidEnding) → IsDue (Ok it) → (old new : Option Files) (text_old text_new : Option (List ℕ)) (status : Status) → Finishes it old new text_old text_new status
-    → Ends IsDue old new text_old text_new status
-does IsDue it due old new text_old text_new StatusOk h = record { ending = it; due = due; finishes = h }
-does IsDue it due old new text_old text_new (BadWords word) h = absurd h
-does IsDue it due old new text_old text_new (MissingFile path) h = absurd h
-does IsDue it due old new text_old text_new (BadFile path cause) h = absurd h
-does IsDue it due old new text_old text_new (NeedsFetch name) h = absurd h
-does IsDue it due old new text_old text_new (NoIdentity name) h = absurd h
-does IsDue it due old new text_old text_new (NoSource uuid) h = absurd h
-does IsDue it due old new text_old text_new (Unsatisfiable log) h = absurd h
-does IsDue it due old new text_old text_new (GaveUp log) h = absurd h
-does IsDue it due old new text_old text_new (ReadFault path) h = absurd h
-does IsDue it due old new text_old text_new (WriteFault path) h = record { ending = it; due = due; finishes = h }
-does IsDue it due old new text_old text_new (Blocked path) h = record { ending = it; due = due; finishes = h }
-does IsDue it due old new text_old text_new (UnknownName name) h = absurd h
-does IsDue it due old new text_old text_new (UnknownPackage uuid) h = absurd h
-does IsDue it due old new text_old text_new (AmbiguousName first second) h = absurd h
-does IsDue it due old new text_old text_new (Limit kind count) h = absurd h
-does IsDue it due old new text_old text_new (Differs difference) h = absurd h
-does IsDue it due old new text_old text_new (NotInManifest name) h = absurd h
-does IsDue it due old new text_old text_new (WrongJulia text) h = absurd h
-does IsDue it due old new text_old text_new (NotBuilt word) h = absurd h
-does IsDue it due old new text_old text_new Memory h = inr (record { ending = it; due = due; finishes = h })
-does IsDue it due old new text_old text_new SinkFault h = record { ending = it; due = due; finishes = h }
-
-leaves : (IsDue : Result SaidEnding Status → Type 0) (old new : Option Files) (text_old text_new : Option (List ℕ)) → new ≡ old → text_new ≡ text_old → (status : Status) → RefusesBy IsDue status → Ends IsDue old new text_old text_new status
-leaves IsDue old new text_old text_new same mute StatusOk due = absurd due
-leaves IsDue old new text_old text_new same mute (BadWords word) due = record { due = due; files = same; text = mute }
-leaves IsDue old new text_old text_new same mute (MissingFile path) due = record { due = due; files = same; text = mute }
-leaves IsDue old new text_old text_new same mute (BadFile path cause) due = record { due = due; files = same; text = mute }
-leaves IsDue old new text_old text_new same mute (NeedsFetch name) due = record { due = due; files = same; text = mute }
-leaves IsDue old new text_old text_new same mute (NoIdentity name) due = record { due = due; files = same; text = mute }
-leaves IsDue old new text_old text_new same mute (NoSource uuid) due = record { due = due; files = same; text = mute }
-leaves IsDue old new text_old text_new same mute (Unsatisfiable log) due = record { due = due; files = same; text = mute }
-leaves IsDue old new text_old text_new same mute (GaveUp log) due = record { due = due; files = same; text = mute }
-leaves IsDue old new text_old text_new same mute (ReadFault path) due = record { due = due; files = same; text = mute }
-leaves IsDue old new text_old text_new same mute (WriteFault path) due = absurd due
-leaves IsDue old new text_old text_new same mute (Blocked path) due = absurd due
-leaves IsDue old new text_old text_new same mute (UnknownName name) due = record { due = due; files = same; text = mute }
-leaves IsDue old new text_old text_new same mute (UnknownPackage uuid) due = record { due = due; files = same; text = mute }
-leaves IsDue old new text_old text_new same mute (AmbiguousName first second) due = record { due = due; files = same; text = mute }
-leaves IsDue old new text_old text_new same mute (Limit kind count) due = record { due = due; files = same; text = mute }
-leaves IsDue old new text_old text_new same mute (Differs difference) due = record { due = due; files = same; text = mute }
-leaves IsDue old new text_old text_new same mute (NotInManifest name) due = record { due = due; files = same; text = mute }
-leaves IsDue old new text_old text_new same mute (WrongJulia text) due = record { due = due; files = same; text = mute }
-leaves IsDue old new text_old text_new same mute (NotBuilt word) due = record { due = due; files = same; text = mute }
-leaves IsDue old new text_old text_new same mute Memory due = inl (record { due = due; files = same; text = mute })
-leaves IsDue old new text_old text_new same mute SinkFault due = absurd due
-
--- an ending that is carried out
-pub ends_well : (IsDue : Files → Result SaidEnding Status → Type 0) (it : SaidEnding) (told old new : Option Files) (text_old text_new : Option (List ℕ)) (status : Status) → IfSome told (λ all. IsDue all (Ok it))
-    → Finishes it old new text_old text_new status → IfSome told (λ all. Ends (IsDue all) old new text_old text_new status)
-ends_well IsDue it None old new text_old text_new status due h = tt
-ends_well IsDue it (Some all) old new text_old text_new status due h = does (IsDue all) it due old new text_old text_new status h
-
--- a refusal before anything is replaced or printed
-pub ends_refused : (IsDue : Files → Result SaidEnding Status → Type 0) (told old new : Option Files) (text_old text_new : Option (List ℕ)) (status : Status) → new ≡ old → text_new ≡ text_old
-    → IfSome told (λ all. RefusesBy (IsDue all) status) → IfSome told (λ all. Ends (IsDue all) old new text_old text_new status)
-ends_refused IsDue None old new text_old text_new status same mute due = tt
-ends_refused IsDue (Some all) old new text_old text_new status same mute due = leaves (IsDue all) old new text_old text_new same mute status due

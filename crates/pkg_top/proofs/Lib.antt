@@ -1,4 +1,3 @@
 pub mod Depots
 mod LeftLemmas
 mod OtherLemmas
-mod PlainLemmas
