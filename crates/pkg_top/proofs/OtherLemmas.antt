@@ -1,13 +1,9 @@
 -- Replacing files leaves every path that is not replaced and lies above no file that is.
-use Rattle.std.proofs.Common.{◌≡◌, List, [], ◌∷◌, Option, Some, None, refl, ap, ◌∙◌, arith}
+use Rattle.std.proofs.Common.{◌≡◌, [], ◌∷◌, Option, Some, None, ap, ◌∙◌, arith}
 use Rattle.std.specs.Option.{option_map}
-use Rattle.std.specs.List.{AllByRecursion}
-use Rattle.pkg_world.specs.Outside.{written}
-use Rattle.pkg_world.specs.Path.{Path}
 use Rattle.pkg_world.specs.Tree.{Files, holds, a_file, with_leaf}
 use Rattle.pkg_world.specs.Writing.{WritingLaw}
-use Rattle.command_answers.specs.Endings.{SaidWrite}
-use Rattle.pkg_top.specs.Left.{AreWritten, IsApart, OthersStay}
+use Rattle.pkg_top.specs.Left.{OthersStay}
 use Rattle.pkg_top.proofs.LeftLemmas.{untold_after}
 
 same_files : (one other : Files) → Some one ≡ Some other → one ≡ other
