@@ -70,11 +70,17 @@ opened_leads_early files place it = then_early (edited_as Resolve place it) (λ 
 posed_early : (files : Files) (place : Place) → IfErr (posed_in files place) IsEarly
 posed_early files place = then_early (opened_in false files place) (with_opened files place) (opened_early files place) (opened_leads_early files place)
 
+differ : {A B : Type 0} (a : A) (b : B) → Ok a ≡ Err b → ⊥
+differ a b h = cc
+
+same_refusal : (a b : Status) (one other : Result SaidEnding Status) → one ≡ Err a → other ≡ Err b → one ≡ other → b ≡ a
+same_refusal a b one other p q h = cc
+
 best_of : (files : Files) (place : Place) (budget : ℕ) (classes : Bool) (e : SaidEnding) (posed : Result Posed Status) → posed_in files place ≡ posed
     → IsAnswerOn posed budget classes (Ok e) → SaysBest files place e
 best_of files place budget classes e (Ok it) is due =
     record { it = it; posed = is; selected = due.resolved.selection.items; writes = due.tells.writes; valid = due.valid; best = due.best }
-best_of files place budget classes e (Err refusal) is due = cc
+best_of files place budget classes e (Err refusal) is due = absurd (differ e refusal due)
 
 pub ending_best : (files : Files) (place : Place) (budget : ℕ) (classes : Bool) (e : SaidEnding) → IsDue files place budget classes (Ok e) → SaysBest files place e
 ending_best files place budget classes e due = best_of files place budget classes e (posed_in files place) refl due
@@ -90,7 +96,7 @@ none_of : (files : Files) (place : Place) (budget : ℕ) (classes : Bool) (log :
     → IsAnswerOn posed budget classes (Err (Unsatisfiable log)) → HasNone files place log.items
 none_of files place budget classes log (Ok it) is due = record { it = it; posed = is; none = due.none; certificate = due.certificate }
 none_of files place budget classes log (Err refusal) is due =
-    let same : refusal ≡ Unsatisfiable log = cc in
+    let same : refusal ≡ Unsatisfiable log = same_refusal (Unsatisfiable log) refusal (Err (Unsatisfiable log)) (Err refusal) refl refl due in
     absurd (not_early files place refusal (Unsatisfiable log) is same)
 
 pub none_none : (files : Files) (place : Place) (budget : ℕ) (classes : Bool) (log : Listing Node) → IsDue files place budget classes (Err (Unsatisfiable log)) → HasNone files place log.items
