@@ -1,5 +1,5 @@
 -- The limits of the instance that stands for a book and a demand.
-use Rattle.std.proofs.Common.{◌≡◌, ℕ, ◌+◌, ◌<◌, ◌≤◌, List, [], length, get_or, sum, ap, refl, inl, inr, subst, sym, arith}
+use Rattle.std.proofs.Common.{◌≡◌, ℕ, ◌+◌, ◌<◌, ◌≤◌, List, [], length, get_or, sum, Ok, ap, refl, inl, inr, subst, sym, arith}
 use Rattle.std.proofs.Math.ListN.{get_or-eq_default}
 use Rattle.std.proofs.lemmas.Bool.{cases_lt}
 use Rattle.std.proofs.lemmas.List.{get_or-map, length-map}
@@ -14,7 +14,7 @@ use Rattle.selection_check.specs.Raises.{HasFewOffers}
 use Rattle.command_answers.specs.declared.status.Status.{Status}
 use Rattle.check_command.specs.CheckDue.{Judged, IsAnswerOn}
 use Rattle.check_command.specs.CheckDue as spec
-use Rattle.check_command.specs.Answered.{RefusesBy}
+use Rattle.command_answers.specs.Endings.{RefusesBy}
 use Rattle.check_command.specs.Refusals.{limit_status}
 
 -- no package has more offers than all have states
