@@ -45,6 +45,11 @@ phase_goes_on None phase next budget classes value is answer h = tt
 phase_goes_on (Some files) phase next budget classes value is answer h =
     subst (λ r. EndsBy (IsAnswerOn (then_ok r (next files)) budget classes) answer) (sym is) h
 
+-- what is due by the files that a phase leaves is due by those before it
+pub as_before : (Is : Files → Result Ending Status → Type 0) (old new : Option Files) → new ≡ old → (answer : Result Ending Status)
+    → IfSome new (λ files. Is files answer) → IfSome old (λ files. Is files answer)
+as_before Is old new same answer h = subst (λ told. IfSome told (λ files. Is files answer)) same h
+
 -- the same of a phase that reads no file
 everywhere : (told : Option Files) (P : Type 0) → P → IfSome told (λ files. P)
 everywhere None P h = tt

@@ -8,7 +8,7 @@ returns-in-Ok-clause-answer g c =
     by_gathered c.found_is_due.ensures (g.S.Store.files c.args.store.now) c.args.catalog.now (wanted c.args.demand.now) _ c.make.ensures.items c.in-Ok.book
     c.args.options.budget c.args.options.classes c.in-Ok.ensures.told c.of_book.ensures.sound _ c.of_book.ensures.answer
 
-pub returns-in-Err-clause-answer : goal.returns-in-Err-clause-answer
-returns-in-Err-clause-answer g c =
+pub returns-clause-answer : goal.returns-clause-answer
+returns-clause-answer g c =
     book_refuses (g.S.Store.files c.args.store.now) c.args.catalog.now (wanted c.args.demand.now) _ c.make.ensures.items
     c.args.options.budget c.args.options.classes c.in-Err.status c.in-Err.ensures.told
