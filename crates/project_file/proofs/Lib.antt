@@ -3,3 +3,4 @@ pub mod Rests
 pub mod Members
 pub mod Written
 pub mod Printed
+pub mod NamePlaces

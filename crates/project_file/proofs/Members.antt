@@ -6,7 +6,7 @@ use Rattle.std.proofs.lemmas.Cmp.{tied_itself, nat_list_cmp_total}
 use Rattle.std.specs.Cmp.Lexicographic.{slice_cmp}
 use Rattle.std.specs.Ordering.{match_ordering, ordering_then, is_eq}
 use Rattle.std.specs.BTreeMap.{insert_entry}
-use Rattle.toml.specs.Data.{Data, depth, Members, no_members, member, members_depth, get_member, same_key}
+use Rattle.toml.specs.Data.{Data, depth, Members, no_members, member, members_depth, get_member, same_key, has_valid_dates, members_have_valid_dates}
 use Rattle.toml.specs.View.{view, members_view}
 use Rattle.toml.specs.declared.value.Value.{Value}
 use Rattle.project_file.specs.Keys.{is_named, unnamed, names_none}
@@ -177,3 +177,31 @@ depth_put key value (member k v more) n small rest =
           let deeper : members_depth (put key value more) ≤ n = depth_put key value more n small (omega (arith, rest)) in
           subst (λ ms. members_depth ms ≤ n) (sym (put_upper key k value v more greater)) (omega (arith, deeper, rest))
     ]
+
+-- ---- which dates they have
+
+member_dated : (k : List ℕ) (v : Data) (more : Members) → has_valid_dates v ≡ true → members_have_valid_dates more ≡ true → members_have_valid_dates (member k v more) ≡ true
+member_dated k v more here rest = rw (here, rest)
+
+pub dated_put : (key : List ℕ) (value : Data) (members : Members) → has_valid_dates value ≡ true → members_have_valid_dates members ≡ true → members_have_valid_dates (put key value members) ≡ true
+dated_put key value no_members here rest = member_dated key value no_members here refl
+dated_put key value (member k v more) here rest =
+    let (first, others) = and_parts (has_valid_dates v) (members_have_valid_dates more) rest in
+    elim (ways (key_cmp key k)) [
+      | lower less ↦ ap members_have_valid_dates (put_lower key k value v more less) ∙ member_dated key value (member k v more) here rest
+      | tied same ↦ ap members_have_valid_dates (put_tied key k value v more same) ∙ member_dated key value more here others
+      | upper greater ↦ ap members_have_valid_dates (put_upper key k value v more greater) ∙ member_dated k v (put key value more) first (dated_put key value more here others)
+    ]
+
+-- so they are without the named keys
+pub dated_unnamed : (members : Members) → members_have_valid_dates members ≡ true → members_have_valid_dates (unnamed members) ≡ true
+dated_unnamed no_members dated = refl
+dated_unnamed (member key value more) dated =
+    let (here, rest) = and_parts (has_valid_dates value) (members_have_valid_dates more) dated in
+    elim (cases_Bool (is_named key)) [
+      | inl named ↦ ap members_have_valid_dates (named_out key value more named) ∙ dated_unnamed more rest
+      | inr other ↦ ap members_have_valid_dates (kept other) ∙ member_dated key value (unnamed more) here (dated_unnamed more rest)
+    ]
+  where
+    kept : is_named key ≡ false → unnamed (member key value more) ≡ member key value (unnamed more)
+    kept other = rw other

@@ -2,7 +2,7 @@
 use Rattle.std.proofs.Common.{◌≡◌, ℕ, ◌≤◌, Bool, true, false, ◌&&◌, cond, List, [], ◌∷◌, Option, Some, None, Result, Ok, codes, refl, ap, sym, ◌∙◌, subst, inl, inr, arith}
 use Rattle.std.proofs.lemmas.Bool.{cases_Bool, and_parts}
 use Rattle.std.specs.Option.{IfSome}
-use Rattle.toml.specs.Data.{Data, depth, Members, members_depth, get_member, same_key}
+use Rattle.toml.specs.Data.{Data, depth, Members, members_depth, get_member, same_key, has_valid_dates, members_have_valid_dates}
 use Rattle.toml_view.specs.Reading.{opt_at, text_of, uuid_of, texts_of, version_at}
 use Rattle.toml_view.specs.declared.refusal.Refusal.{Refusal}
 use Rattle.jl_versions.specs.declared.version.Version.{Version}
@@ -14,7 +14,7 @@ use Rattle.project_file.specs.Said.{Said}
 use Rattle.project_file.specs.Projects.{project_of, uuid_in, version_in, ids_in, extensions_in, compat_in, sources_in}
 use Rattle.project_file.specs.Putting.{put_some, each_at, Puts, PutsBack, PutsMiddle, PutsFront}
 use Rattle.project_file.specs.Chain.{fronts, middles, backs, front_of, middle_of, back_of, in_turn, project_chain}
-use Rattle.project_file.proofs.Members.{keys_equal, get_put, get_put-other, unnamed_put, unnamed_plain, get_plain, depth_put}
+use Rattle.project_file.proofs.Members.{keys_equal, get_put, get_put-other, unnamed_put, unnamed_plain, get_plain, depth_put, dated_put, dated_unnamed}
 use Rattle.project_file.proofs.Orders.{project_in_order}
 
 -- ---- several puts, the last one first
@@ -102,6 +102,24 @@ pub front_depth : {compat : List (List ℕ × Spelled)} {deps : List (List ℕ �
     → PutsFront compat deps extensions extras old new → members_depth old ≤ 63 → members_depth new ≤ 63
 front_depth puts within = puts_depth puts.compat_put (puts_depth puts.deps_put (puts_depth puts.extensions_put (puts_depth puts.extras_put within)))
 
+-- ---- which dates
+
+puts_dated : {T : Type 0} {read : Option Data → Result T Refusal} {key : List ℕ} {meant : T} {old new : Members} → Puts read key meant old new → members_have_valid_dates old ≡ true → members_have_valid_dates new ≡ true
+puts_dated {key = key} {old = old} {new = new} puts within = well puts.value puts.dated puts.put_there
+  where
+    well : (value : Option Data) → IfSome value (λ v. has_valid_dates v ≡ true) → new ≡ put_some key value old → members_have_valid_dates new ≡ true
+    well None dated there = ap members_have_valid_dates there ∙ within
+    well (Some value) dated there = ap members_have_valid_dates there ∙ dated_put key value old dated within
+
+puts_unnamed : {T : Type 0} {read : Option Data → Result T Refusal} {key : List ℕ} {meant : T} {old new : Members} → Puts read key meant old new → is_named key ≡ true → unnamed new ≡ unnamed old
+puts_unnamed {key = key} {old = old} puts named = ap unnamed puts.put_there ∙ unnamed_put_some key puts.value old named
+
+both_dated : (a b : Bool) → (a ≡ true → b ≡ true) → (b ≡ true → a ≡ true) → b ≡ a
+both_dated true true to from = refl
+both_dated true false to from = to refl
+both_dated false true to from = sym (from refl)
+both_dated false false to from = refl
+
 -- ---- a project
 
 module _ (name manifest uuid : Option (List ℕ)) (version : Option Version) (deps weakdeps extras : List (List ℕ × List ℕ)) (extensions : List (List ℕ × List (List ℕ)))
@@ -160,3 +178,20 @@ module _ (name manifest uuid : Option (List ℕ)) (version : Option Version) (de
       sym (project_in_order m3)
       ∙ (λ i. in_turn (fronts (compat_back i) (deps_back i) (extensions_back i) (extras_back i)) (middles (manifest_back i) (name_back i) (sources_back i))
       (backs (uuid_back i) (version_back i) (weakdeps_back i)) (rest_back i))
+
+-- the dates of the table are those of the rest
+pub dates_stay : {uuid : Option (List ℕ)} {version : Option Version} {weakdeps : List (List ℕ × List ℕ)} {manifest name : Option (List ℕ)} {sources : List (List ℕ × Source)}
+    {compat : List (List ℕ × Spelled)} {deps : List (List ℕ × List ℕ)} {extensions : List (List ℕ × List (List ℕ))} {extras : List (List ℕ × List ℕ)} {rest m1 m2 m3 : Members}
+    → PutsBack uuid version weakdeps rest m1 → PutsMiddle manifest name sources m1 m2 → PutsFront compat deps extensions extras m2 m3
+    → names_none rest ≡ true → members_have_valid_dates m3 ≡ members_have_valid_dates rest
+unfolding is_named
+dates_stay {rest = rest} {m3 = m3} back middle front none =
+    let left : unnamed m3 ≡ rest =
+    puts_unnamed front.compat_put refl ∙ puts_unnamed front.deps_put refl ∙ puts_unnamed front.extensions_put refl ∙ puts_unnamed front.extras_put refl
+    ∙ puts_unnamed middle.manifest_put refl ∙ puts_unnamed middle.name_put refl ∙ puts_unnamed middle.sources_put refl
+    ∙ puts_unnamed back.uuid_put refl ∙ puts_unnamed back.version_put refl ∙ puts_unnamed back.weakdeps_put refl ∙ unnamed_plain rest none in
+    both_dated (members_have_valid_dates rest) (members_have_valid_dates m3)
+    (λ dated. puts_dated front.compat_put (puts_dated front.deps_put (puts_dated front.extensions_put (puts_dated front.extras_put
+    (puts_dated middle.manifest_put (puts_dated middle.name_put (puts_dated middle.sources_put
+    (puts_dated back.uuid_put (puts_dated back.version_put (puts_dated back.weakdeps_put dated))))))))))
+    (λ dated. sym (ap members_have_valid_dates left) ∙ dated_unnamed m3 dated)

@@ -8,7 +8,7 @@ use Rattle.std.specs.Ordering.{ordering_reverse, is_lt}
 use Rattle.std.specs.Cmp.Lexicographic.{slice_cmp}
 use Rattle.std.specs.FinMap.Entries.{below_all}
 use Rattle.pkg_world.specs.ByName.{is_by_name}
-use Rattle.toml.specs.Data.{Data, string, Items, no_items, item, push_item, items_depth, Members, no_members, member, members_depth}
+use Rattle.toml.specs.Data.{Data, string, Items, no_items, item, push_item, items_depth, Members, no_members, member, members_depth, has_valid_dates, items_have_valid_dates, members_have_valid_dates}
 use Rattle.toml_view.specs.Reading.{at, chained, mapped, each, items_read, text_of}
 use Rattle.toml_view.specs.declared.refusal.Refusal.{Refusal}
 use Rattle.project_file.specs.Places.{source_in}
@@ -29,6 +29,12 @@ url_back url None (Some subdir) = refl
 url_back url (Some rev) None = refl
 url_back url (Some rev) (Some subdir) = refl
 
+pub url_dated : (url : List ℕ) (rev subdir : Option (List ℕ)) → members_have_valid_dates (url_members url rev subdir) ≡ true
+url_dated url None None = refl
+url_dated url None (Some subdir) = refl
+url_dated url (Some rev) None = refl
+url_dated url (Some rev) (Some subdir) = refl
+
 pub url_flat : (url : List ℕ) (rev subdir : Option (List ℕ)) → members_depth (url_members url rev subdir) ≤ 0
 url_flat url None None = omega arith
 url_flat url None (Some subdir) = omega arith
@@ -48,6 +54,12 @@ items_back-push (item d ds) names name same = more (text_of d) (items_read text_
     more (Err r) rest whole e next = cc
     more (Ok v) (Err r) whole e next = cc
     more (Ok v) (Ok read) whole e next = let same' : v ∷ read ≡ whole = cc in ap (mapped (λ vs. v ∷ vs)) (next read refl) ∙ ap (λ w. Ok (w ++ name ∷ [])) same'
+
+pub items_dated-push : (ds : Items) (name : List ℕ) → items_have_valid_dates ds ≡ true → items_have_valid_dates (push_item ds (string name)) ≡ true
+items_dated-push no_items name dated = refl
+items_dated-push (item d ds) name dated =
+    let (here, rest) = and_parts (has_valid_dates d) (items_have_valid_dates ds) dated in
+    rw (here, items_dated-push ds name rest)
 
 pub items_flat-push : (ds : Items) (name : List ℕ) → items_depth ds ≤ 0 → items_depth (push_item ds (string name)) ≤ 0
 items_flat-push no_items name flat = omega arith

@@ -6,3 +6,4 @@ pub mod Projects
 pub mod Chain
 pub mod Answers
 pub mod Putting
+pub mod Edits

@@ -1,8 +1,8 @@
 -- A table with values put at keys, in the order of the keys.
-use Rattle.std.specs.Prelude.{◌≡◌, ℕ, ◌≤◌, List, codes, Option, Some, None, IfSome, Result, Ok}
+use Rattle.std.specs.Prelude.{◌≡◌, ℕ, true, ◌≤◌, List, codes, Option, Some, None, IfSome, Result, Ok}
 use Rattle.std.specs.Ordering.{nat_cmp, match_ordering}
 use Rattle.std.specs.Cmp.Lexicographic.{slice_cmp}
-use Rattle.toml.specs.Data.{Data, depth, Members, no_members, member}
+use Rattle.toml.specs.Data.{Data, depth, has_valid_dates, Members, no_members, member}
 use Rattle.jl_versions.specs.declared.version.Version.{Version}
 use Rattle.toml_view.specs.Reading.{mapped, opt_at, or_empty, table_of, text_of, uuid_of, texts_of, version_at}
 use Rattle.toml_view.specs.declared.refusal.Refusal.{Refusal}
@@ -23,11 +23,13 @@ put_some key (Some value) members = put key value members
 abbrev pub each_at : {T : Type 0} → (Data → Result T Refusal) → List ℕ → Option Data → Result (List (List ℕ × T)) Refusal
 each_at read key value = mapped or_empty (opt_at (table_of read) key value)
 
--- new is old with a value at the key, or without one, that reads as what is said, and nests two deep at most
+-- new is old with a value at the key, or without one, that reads as what is said, nests two deep at most, and has no date
+-- without a text
 pub record Puts {T : Type 0} (read : Option Data → Result T Refusal) (key : List ℕ) (meant : T) (old new : Members) : Type 0 where
   pub value : Option Data
   pub reads : read value ≡ Ok meant
   pub flat : IfSome value (λ v. depth v ≤ 2)
+  pub dated : IfSome value (λ v. has_valid_dates v ≡ true)
   pub put_there : new ≡ put_some key value old
 
 -- a project's keys from `uuid` on, the last one first

@@ -1,6 +1,7 @@
 //! Project files: the project of a table, and the table of a project.
 #![tactic(auto)]
 
+mod edits;
 mod fault;
 mod parts;
 mod project;

@@ -1,6 +1,6 @@
 //! Putting values into a table.
-ghost use Rattle.std.specs.Prelude.{◌≡◌, ◌≤◌, Ok, Some, IfOk, OnOk, IsTrue, option_map};
-ghost use Rattle.toml.specs.Data.{string, table as as_data, members_depth};
+ghost use Rattle.std.specs.Prelude.{◌≡◌, ◌≤◌, true, Ok, Some, IfOk, OnOk, IsTrue, option_map};
+ghost use Rattle.toml.specs.Data.{string, table as as_data, members_depth, members_have_valid_dates};
 ghost use Rattle.toml.specs.View.{view, table_view};
 ghost use Rattle.toml_view.specs.Reading.{each, opt_at};
 ghost use Rattle.pkg_world.specs.ByName.{is_by_name};
@@ -103,6 +103,7 @@ fn table_of<T: Writes>(alloc: Global, items: &[(Name, T)]) -> Result<Table, Allo
     requires { IsTrue (is_by_name items.now) }
     ensures back { IfOk result (λ table. each T.gives (table_view table) ≡ Ok items.now) }
     ensures flat { IfOk result (λ table. members_depth (table_view table) ≤ 1) }
+    ensures dated { IfOk result (λ table. members_have_valid_dates (table_view table) ≡ true) }
 {
     let mut table = Table::new(alloc);
     for (name, value) in items {

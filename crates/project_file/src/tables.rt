@@ -1,5 +1,6 @@
 //! The table of a project.
 ghost use Rattle.std.specs.Prelude.{◌≡◌, ◌≤◌, Ok, IfOk, OnOk, IsTrue};
+ghost use Rattle.toml.specs.Data.{members_have_valid_dates};
 ghost use Rattle.toml.specs.View.{table_view};
 ghost use Rattle.toml_view.specs.Document.{nesting, nesting_limit};
 ghost use Rattle.project_file.specs.Keys.{names_none};
@@ -22,6 +23,8 @@ impl Project {
         requires nested { nesting (table_view self.now.rest) ≤ nesting_limit }
         ensures back { IfOk result (λ table. project_of (table_view table) ≡ Ok (said self.now)) }
         ensures nested { IfOk result (λ table. nesting (table_view table) ≤ nesting_limit) }
+        // Its dates are those of the rest.
+        ensures dates { IfOk result (λ table. members_have_valid_dates (table_view table) ≡ members_have_valid_dates (table_view self.now.rest)) }
     {
         let mut table = copied(&self.rest)?;
         self.put_back(alloc, &mut table)?;

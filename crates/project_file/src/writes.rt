@@ -1,6 +1,6 @@
 //! What is written as a value of a table.
-ghost use Rattle.std.specs.Prelude.{◌≡◌, ◌≤◌, ◌∷◌, Ok, IfOk, List, ℕ};
-ghost use Rattle.toml.specs.Data.{depth, items_depth, members_depth};
+ghost use Rattle.std.specs.Prelude.{◌≡◌, ◌≤◌, ◌∷◌, Ok, IfOk, List, ℕ, true};
+ghost use Rattle.toml.specs.Data.{depth, items_depth, members_depth, has_valid_dates, items_have_valid_dates, members_have_valid_dates};
 ghost use Rattle.toml.specs.View.{view, array_view, table_view};
 ghost use Rattle.toml_view.specs.Reading.{text_of, uuid_of, version_at, texts_of, items_read};
 ghost use Rattle.project_file.specs.Spelled.{spec_of};
@@ -26,10 +26,11 @@ pub(crate) trait Writes {
 
     ghost gives: { Data → Result Self Refusal };
 
-    /// A value that reads as this again, and nests one deep at most.
+    /// A value that reads as this again, nests one deep at most, and has no date without a text.
     fn write(&self, alloc: Global) -> Result<Value, AllocError>
         ensures back { IfOk result (λ value. gives (view value) ≡ Ok self.now) }
-        ensures flat { IfOk result (λ value. depth (view value) ≤ 1) };
+        ensures flat { IfOk result (λ value. depth (view value) ≤ 1) }
+        ensures dated { IfOk result (λ value. has_valid_dates (view value) ≡ true) };
 }
 
 impl Writes for Name {
@@ -72,6 +73,7 @@ impl Writes for Values<Name> {
 fn array_of(alloc: Global, names: &[Name]) -> Result<Array, AllocError>
     ensures back { IfOk result (λ array. items_read text_of (array_view array) ≡ Ok names.now) }
     ensures flat { IfOk result (λ array. items_depth (array_view array) ≤ 0) }
+    ensures dated { IfOk result (λ array. items_have_valid_dates (array_view array) ≡ true) }
 {
     let mut array = Array::new(alloc);
     for name in names {
@@ -101,6 +103,7 @@ impl Writes for Source {
 fn source_table(alloc: Global, source: &Source) -> Result<Table, AllocError>
     ensures back { IfOk result (λ table. source_in (table_view table) ≡ Ok source.now) }
     ensures flat { IfOk result (λ table. members_depth (table_view table) ≤ 0) }
+    ensures dated { IfOk result (λ table. members_have_valid_dates (table_view table) ≡ true) }
 {
     match source {
         Source::Path(path) => path_table(alloc, path),
@@ -112,6 +115,7 @@ fn source_table(alloc: Global, source: &Source) -> Result<Table, AllocError>
 fn path_table(alloc: Global, path: &Name) -> Result<Table, AllocError>
     ensures back { IfOk result (λ table. source_in (table_view table) ≡ Ok (Path path.now)) }
     ensures flat { IfOk result (λ table. members_depth (table_view table) ≤ 0) }
+    ensures dated { IfOk result (λ table. members_have_valid_dates (table_view table) ≡ true) }
 {
     let mut table = Table::new(alloc);
     let text = Value::string(alloc, path.as_str())?;
@@ -120,7 +124,7 @@ fn path_table(alloc: Global, path: &Name) -> Result<Table, AllocError>
 }
 
 /// The table of a source with an address.
-#[tactic(auto, using(crate::proofs::Written::url_back, crate::proofs::Written::url_flat))]
+#[tactic(auto, using(crate::proofs::Written::url_back, crate::proofs::Written::url_flat, crate::proofs::Written::url_dated))]
 fn url_table(
     alloc: Global,
     url: &Name,
@@ -129,6 +133,7 @@ fn url_table(
 ) -> Result<Table, AllocError>
     ensures back { IfOk result (λ table. source_in (table_view table) ≡ Ok (Url url.now rev.now subdir.now)) }
     ensures flat { IfOk result (λ table. members_depth (table_view table) ≤ 0) }
+    ensures dated { IfOk result (λ table. members_have_valid_dates (table_view table) ≡ true) }
 {
     let mut table = Table::new(alloc);
     let text = Value::string(alloc, url.as_str())?;

@@ -1,6 +1,8 @@
 //! The two files of a project, read from a store.
 ghost use Rattle.std.specs.Prelude.{◌≡◌, ◌≤◌, IfSome, IfOk, IfErr};
 ghost use Rattle.pkg_world.specs.Tree.{holds};
+ghost use Rattle.toml.specs.View.{table_view};
+ghost use Rattle.project_file.specs.Keys.{IsPlain};
 ghost use Rattle.project_file.specs.Projects as projects;
 ghost use Rattle.manifest_file.specs.Saying as manifests;
 ghost use Rattle.project_places.specs.Files.{at_file, project_in, manifest_in, some_of, LoadsProject, LoadsManifest, RefusesFile, RefusesBy, manifest_cause};
@@ -21,6 +23,8 @@ pub fn project_at<S: Store>(
     file: &NormPath,
 ) -> Result<Option<Project>, EnvFault>
     ensures told { IfSome (S.files store.old) (λ all. LoadsProject (at_file file.now (project_in (holds file.now all))) result) }
+    // `to_table` takes the project.
+    ensures plain { IfOk result (λ found. IfSome found (λ project. IsPlain (table_view project.rest))) }
     ensures fault { IfErr result (ReadFaultRose (S.read_faults store.old) (S.read_faults store.new)) }
     ensures files { S.files store.new ≡ S.files store.old }
     ensures later { S.read_faults store.old ≤ S.read_faults store.new }
@@ -36,6 +40,7 @@ pub fn project_at<S: Store>(
 
 fn project_of(alloc: Global, file: &NormPath, bytes: &[u8]) -> Result<Option<Project>, EnvFault>
     ensures told { LoadsProject (at_file file.now (some_of (projects.read_of bytes.now))) result }
+    ensures plain { IfOk result (λ found. IfSome found (λ project. IsPlain (table_view project.rest))) }
     ensures fault { IfErr result NoReadFault }
 {
     match Project::read(alloc, bytes) {

@@ -10,5 +10,6 @@ returns g c =
       value = Some (table (table_view c.in_ok-pairs.pairs));
       reads = ap (λ r. mapped or_empty (mapped (λ v. Some v) (at c.args.key.now r))) c.in_ok-pairs.ensures.back;
       flat = omega (arith, c.in_ok-pairs.ensures.flat);
+      dated = c.in_ok-pairs.ensures.dated;
       put_there = c.in_ok-put_table.ensures;
     }

@@ -9,5 +9,6 @@ returns g c =
       value = Some (view c.in_ok-written.written);
       reads = ap (λ r. mapped (λ v. Some v) (at c.args.key.now r)) c.in_ok-written.ensures.back;
       flat = omega (arith, c.in_ok-written.ensures.flat);
+      dated = c.in_ok-written.ensures.dated;
       put_there = c.in_ok-put.ensures;
     }

@@ -1,7 +1,7 @@
-use Rattle.std.proofs.Common.{◌≡◌, ap, ◌∙◌, rules}
+use Rattle.std.proofs.Common.{ap, ◌∙◌, rules}
 use Rattle.std.proofs.lemmas.Map.Made.{filter_same_pairs}
 use Rattle.toml.specs.View.{members_view, table_view}
-use Rattle.project_file.specs.Keys.{names_none, unnamed}
+use Rattle.project_file.specs.Keys.{names_none}
 use Rattle.project_file.proofs.Rests.{is_kept, unnamed-view, names_none-unnamed, nesting-unnamed}
 use Rattle.project_file.proofs.reading.without_named.Goals as goal
 
