@@ -1,0 +1,6 @@
+mod Cuts
+mod Numbers
+mod NodeLines
+mod Nodes
+mod BadLines
+mod Readings

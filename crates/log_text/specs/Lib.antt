@@ -1,0 +1,4 @@
+pub mod Text
+pub mod Bad
+pub mod Meant
+pub mod Laws
