@@ -1,0 +1,3 @@
+pub mod ByName
+pub mod NamedIds
+pub mod Rules
