@@ -2,7 +2,9 @@
 -- there, and so must the manifest where it is needed; one that isn't needed and isn't there is empty. (Pkg, Project.toml and
 -- Manifest.toml; where they lie: Julia manual, Code Loading.)
 --     project_files needed files place     the paths of both and what they say, or the first refusal
-use Rattle.std.specs.Prelude.{◌≡◌, Bool, true, if◌then◌else◌, Ok, Err}
+--     begun_files files place              the same where the project file need not be there either
+use Rattle.std.specs.Prelude.{◌≡◌, Bool, true, false, if◌then◌else◌, [], Option, Some, None, Ok, Err}
+use Rattle.toml.specs.Data.{no_members}
 use Rattle.pkg_world.specs.Each.{then_ok}
 use Rattle.pkg_world.specs.Path.{Path}
 use Rattle.pkg_world.specs.Tree.{Files, holds, is_file}
@@ -51,6 +53,38 @@ with_project needed files file said = then_ok (read_as (places.at_file file (man
 
 abbrev pub at_file : Bool → Files → Path → Read HomeFiles
 at_file needed files file = then_ok (project_needed files file) (with_project needed files file)
+
+-- what the file of a project without any key says
+abbrev pub empty_project : project.Said
+empty_project =
+    record {
+      name = None;
+      uuid = None;
+      version = None;
+      deps = [];
+      weakdeps = [];
+      extensions = [];
+      compat = [];
+      extras = [];
+      sources = [];
+      manifest = None;
+      rest = no_members;
+    }
+
+abbrev pub or_empty : Option project.Said → project.Said
+or_empty None = empty_project
+or_empty (Some said) = said
+
+-- what the project file at a path says; one that isn't there is empty
+abbrev pub project_or_empty : Files → Path → Read project.Said
+project_or_empty files file = then_ok (read_as (places.at_file file (places.project_in (holds file files)))) (λ found. Ok (or_empty found))
+
+abbrev pub begun_at : Files → Path → Read HomeFiles
+begun_at files file = then_ok (project_or_empty files file) (with_project false files file)
+
+-- both files, neither of which need be there
+abbrev pub begun_files : Files → Place → Read HomeFiles
+begun_files files place = begun_at files (active_file files place)
 
 abbrev pub project_files : Bool → Files → Place → Read HomeFiles
 project_files needed files place = at_file needed files (active_file files place)

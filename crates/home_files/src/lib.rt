@@ -3,4 +3,4 @@
 
 mod reading;
 
-pub use reading::{HomeFiles, home_files, project_files};
+pub use reading::{HomeFiles, begun_files, home_files, project_files};

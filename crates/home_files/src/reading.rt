@@ -1,5 +1,7 @@
 //! Reading the two files of the active project.
-ghost use Rattle.std.specs.Prelude.{◌≡◌, ◌≤◌, Ok, IfSome, IfErr, MatchResult};
+ghost use Rattle.std.specs.Prelude.{◌≡◌, ◌≤◌, Ok, IfSome, IfOk, IfErr, MatchResult};
+ghost use Rattle.toml.specs.View.{table_view};
+ghost use Rattle.project_file.specs.Keys.{IsPlain};
 ghost use Rattle.project_file.specs.Said.{said as said_project};
 ghost use Rattle.manifest_file.specs.Said.{said as said_manifest};
 ghost use Rattle.registry_tables.specs.Answers.{Refuses, ReadFaultRose};
@@ -31,6 +33,7 @@ pub fn home_files<S: Store>(
     place: &Place,
 ) -> Result<HomeFiles, RegFault>
     ensures told { IfSome (S.files store.old) (λ all. MatchResult result (λ it. spec.home_files all place.now ≡ Ok (spec.seen it)) (Refuses (spec.home_files all place.now))) }
+    ensures plain { IfOk result (λ it. IsPlain (table_view it.project.rest)) }
     ensures fault { IfErr result (ReadFaultRose (S.read_faults store.old) (S.read_faults store.new)) }
     ensures files { S.files store.new ≡ S.files store.old }
     ensures later { S.read_faults store.old ≤ S.read_faults store.new }
@@ -52,6 +55,7 @@ pub fn project_files<S: Store>(
     needed: bool,
 ) -> Result<HomeFiles, RegFault>
     ensures told { IfSome (S.files store.old) (λ all. MatchResult result (λ it. spec.project_files needed all place.now ≡ Ok (spec.seen it)) (Refuses (spec.project_files needed all place.now))) }
+    ensures plain { IfOk result (λ it. IsPlain (table_view it.project.rest)) }
     ensures fault { IfErr result (ReadFaultRose (S.read_faults store.old) (S.read_faults store.new)) }
     ensures files { S.files store.new ≡ S.files store.old }
     ensures later { S.read_faults store.old ≤ S.read_faults store.new }
@@ -65,6 +69,81 @@ pub fn project_files<S: Store>(
     }
 }
 
+/// The two files of the active project, each of which is empty where it isn't there: the project file is read, then the manifest.
+/// Its path is that of the file that is to be made. (Pkg, Project.toml and Manifest.toml; where they lie: Julia manual, Code
+/// Loading.)
+///
+/// Errors: BadFile of the first of the two that is refused; ReadFault, where the store can't read; want of memory.
+pub fn begun_files<S: Store>(
+    alloc: Global,
+    store: &mut S,
+    place: &Place,
+) -> Result<HomeFiles, RegFault>
+    ensures told { IfSome (S.files store.old) (λ all. MatchResult result (λ it. spec.begun_files all place.now ≡ Ok (spec.seen it)) (Refuses (spec.begun_files all place.now))) }
+    ensures plain { IfOk result (λ it. IsPlain (table_view it.project.rest)) }
+    ensures fault { IfErr result (ReadFaultRose (S.read_faults store.old) (S.read_faults store.new)) }
+    ensures files { S.files store.new ≡ S.files store.old }
+    ensures later { S.read_faults store.old ≤ S.read_faults store.new }
+    ensures other { S.write_faults store.new ≡ S.write_faults store.old }
+{
+    match active_project(alloc, store, place) {
+        Ok(file) => begun_at(alloc, store, place, file),
+        Err(EnvFault::ReadFault(path)) => Err(RegFault::ReadFault(path)),
+        Err(EnvFault::BadFile(..)) => unreachable!(),
+        Err(EnvFault::Memory) => Err(RegFault::Memory),
+    }
+}
+
+fn begun_at<S: Store>(
+    alloc: Global,
+    store: &mut S,
+    place: &Place,
+    file: NormPath,
+) -> Result<HomeFiles, RegFault>
+    ensures told { IfSome (S.files store.old) (λ all. MatchResult result (λ it. spec.begun_at all file ≡ Ok (spec.seen it)) (Refuses (spec.begun_at all file))) }
+    ensures plain { IfOk result (λ it. IsPlain (table_view it.project.rest)) }
+    ensures fault { IfErr result (ReadFaultRose (S.read_faults store.old) (S.read_faults store.new)) }
+    ensures files { S.files store.new ≡ S.files store.old }
+    ensures later { S.read_faults store.old ≤ S.read_faults store.new }
+    ensures other { S.write_faults store.new ≡ S.write_faults store.old }
+{
+    match project_or_empty(alloc, store, &file) {
+        Ok(project) => with_project(alloc, store, place, file, project, false),
+        Err(fault) => Err(fault),
+    }
+}
+
+/// The project of the file at a path; one that isn't there is empty.
+fn project_or_empty<S: Store>(
+    alloc: Global,
+    store: &mut S,
+    file: &NormPath,
+) -> Result<Project, RegFault>
+    ensures told { IfSome (S.files store.old) (λ all. MatchResult result (λ project. spec.project_or_empty all file.now ≡ Ok (said_project project)) (Refuses (spec.project_or_empty all file.now))) }
+    ensures plain { IfOk result (λ project. IsPlain (table_view project.rest)) }
+    ensures fault { IfErr result (ReadFaultRose (S.read_faults store.old) (S.read_faults store.new)) }
+    ensures files { S.files store.new ≡ S.files store.old }
+    ensures later { S.read_faults store.old ≤ S.read_faults store.new }
+    ensures other { S.write_faults store.new ≡ S.write_faults store.old }
+{
+    match project_at(alloc, store, file) {
+        Ok(Some(project)) => Ok(project),
+        Ok(None) => Ok(empty_project(alloc)),
+        Err(EnvFault::ReadFault(path)) => Err(RegFault::ReadFault(path)),
+        Err(EnvFault::BadFile(path, cause)) => Err(RegFault::BadFile(path, cause)),
+        Err(EnvFault::Memory) => Err(RegFault::Memory),
+    }
+}
+
+/// The project of a file that isn't there.
+#[tactic(auto, unfolding(project_file::specs::Said::said, project_file::specs::Projects::project_of))]
+fn empty_project(alloc: Global) -> Project
+    ensures said { said_project result ≡ spec.empty_project }
+    ensures plain { IsPlain (table_view result.rest) }
+{
+    Project::empty(alloc)
+}
+
 fn at_file<S: Store>(
     alloc: Global,
     store: &mut S,
@@ -73,6 +152,7 @@ fn at_file<S: Store>(
     needed: bool,
 ) -> Result<HomeFiles, RegFault>
     ensures told { IfSome (S.files store.old) (λ all. MatchResult result (λ it. spec.at_file needed all file ≡ Ok (spec.seen it)) (Refuses (spec.at_file needed all file))) }
+    ensures plain { IfOk result (λ it. IsPlain (table_view it.project.rest)) }
     ensures fault { IfErr result (ReadFaultRose (S.read_faults store.old) (S.read_faults store.new)) }
     ensures files { S.files store.new ≡ S.files store.old }
     ensures later { S.read_faults store.old ≤ S.read_faults store.new }
@@ -96,7 +176,9 @@ fn with_project<S: Store>(
     project: Project,
     needed: bool,
 ) -> Result<HomeFiles, RegFault>
+    requires { IsPlain (table_view project.rest) }
     ensures told { IfSome (S.files store.old) (λ all. MatchResult result (λ it. spec.with_project needed all file (said_project project) ≡ Ok (spec.seen it)) (Refuses (spec.with_project needed all file (said_project project)))) }
+    ensures plain { IfOk result (λ it. IsPlain (table_view it.project.rest)) }
     ensures fault { IfErr result (ReadFaultRose (S.read_faults store.old) (S.read_faults store.new)) }
     ensures files { S.files store.new ≡ S.files store.old }
     ensures later { S.read_faults store.old ≤ S.read_faults store.new }
@@ -118,7 +200,9 @@ fn with_manifest<S: Store>(
     path: NormPath,
     needed: bool,
 ) -> Result<HomeFiles, RegFault>
+    requires { IsPlain (table_view project.rest) }
     ensures told { IfSome (S.files store.old) (λ all. MatchResult result (λ it. spec.with_manifest needed all file (said_project project) path ≡ Ok (spec.seen it)) (Refuses (spec.with_manifest needed all file (said_project project) path))) }
+    ensures plain { IfOk result (λ it. IsPlain (table_view it.project.rest)) }
     ensures fault { IfErr result (ReadFaultRose (S.read_faults store.old) (S.read_faults store.new)) }
     ensures files { S.files store.new ≡ S.files store.old }
     ensures later { S.read_faults store.old ≤ S.read_faults store.new }

@@ -9,4 +9,6 @@ mod text;
 
 pub use laws::{selection_is_said, stanzas_rise, stanzas_say_offers};
 pub use manifest::{FoundExtensions, written};
+pub use order::{InOrder, in_order};
+pub use stanza::offer_of;
 pub use text::manifest_text;

@@ -11,14 +11,10 @@ use std::collections::BTreeMap;
 use uuid::Uuid;
 
 /// Versions by the names and identifiers of their packages.
-pub(crate) type InOrder = BTreeMap<(String, Uuid), Version>;
+pub type InOrder = BTreeMap<(String, Uuid), Version>;
 
 /// The selected packages by their names and then by their identifiers. The one error is want of memory.
-pub(crate) fn in_order(
-    alloc: Global,
-    book: &Book,
-    selection: &Selection,
-) -> Result<InOrder, AllocError>
+pub fn in_order(alloc: Global, book: &Book, selection: &Selection) -> Result<InOrder, AllocError>
     ensures { IfOk result (λ packages. keyed packages.entries ≡ spec.in_order book.now selection.now.items) }
 {
     let pairs = selection.items();

@@ -91,7 +91,7 @@ fn extensions_of(
 }
 
 /// What the book offers of a package at a version.
-fn offer_of<'a>(book: &'a Book, uuid: &Uuid, version: &Version) -> Option<&'a Offer>
+pub fn offer_of<'a>(book: &'a Book, uuid: &Uuid, version: &Version) -> Option<&'a Offer>
     ensures { option_map offering (option_copied result) ≡ offer_at (book_offers book.now) uuid.now version.now }
 {
     match book.number(uuid) {
