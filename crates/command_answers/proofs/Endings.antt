@@ -2,7 +2,7 @@
 use Rattle.std.proofs.Common.{ℕ, Result, Ok, Err}
 use Rattle.command_answers.specs.declared.ending.Ending.{Ending}
 use Rattle.command_answers.specs.declared.status.Status.{Status}
-use Rattle.command_answers.specs.declared.status.Status.TheVariants.{Ok as StatusOk, BadWords, MissingFile, BadFile, NeedsFetch, NoIdentity, NoSource, Unsatisfiable, GaveUp, ReadFault, WriteFault, Blocked, UnknownName, UnknownPackage, AmbiguousName, Limit, Differs, NotInManifest, WrongJulia, NotBuilt, Memory, SinkFault}
+use Rattle.command_answers.specs.declared.status.Status.TheVariants.{Ok as StatusOk, BadWords, MissingFile, BadFile, NeedsFetch, NoIdentity, NoSource, Unsatisfiable, GaveUp, ReadFault, WriteFault, Blocked, UnknownName, UnknownPackage, AmbiguousName, Limit, Differs, NotInProject, NotInManifest, NotPinned, NotAProject, NameTaken, WrongJulia, NotBuilt, Memory, SinkFault}
 use Rattle.command_answers.specs.Answers.{IsRefusal, IsUnprinted, WriteFaultRose, SinkFaultRose}
 use Rattle.command_answers.specs.Endings.{SaidEnding, said_ending, RefusesBy, EndsBy}
 
@@ -24,7 +24,11 @@ unprinted_refusal (UnknownPackage uuid) h = tt
 unprinted_refusal (AmbiguousName first second) h = tt
 unprinted_refusal (Limit kind count) h = tt
 unprinted_refusal (Differs difference) h = tt
+unprinted_refusal (NotInProject name) h = tt
 unprinted_refusal (NotInManifest name) h = tt
+unprinted_refusal (NotPinned name) h = tt
+unprinted_refusal (NotAProject path) h = tt
+unprinted_refusal (NameTaken uuid) h = tt
 unprinted_refusal (WrongJulia text) h = tt
 unprinted_refusal (NotBuilt word) h = tt
 unprinted_refusal Memory h = tt
@@ -48,7 +52,11 @@ unprinted_write before now (UnknownPackage uuid) h = tt
 unprinted_write before now (AmbiguousName first second) h = tt
 unprinted_write before now (Limit kind count) h = tt
 unprinted_write before now (Differs difference) h = tt
+unprinted_write before now (NotInProject name) h = tt
 unprinted_write before now (NotInManifest name) h = tt
+unprinted_write before now (NotPinned name) h = tt
+unprinted_write before now (NotAProject path) h = tt
+unprinted_write before now (NameTaken uuid) h = tt
 unprinted_write before now (WrongJulia text) h = tt
 unprinted_write before now (NotBuilt word) h = tt
 unprinted_write before now Memory h = tt
@@ -72,7 +80,11 @@ unprinted_sink before now (UnknownPackage uuid) h = tt
 unprinted_sink before now (AmbiguousName first second) h = tt
 unprinted_sink before now (Limit kind count) h = tt
 unprinted_sink before now (Differs difference) h = tt
+unprinted_sink before now (NotInProject name) h = tt
 unprinted_sink before now (NotInManifest name) h = tt
+unprinted_sink before now (NotPinned name) h = tt
+unprinted_sink before now (NotAProject path) h = tt
+unprinted_sink before now (NameTaken uuid) h = tt
 unprinted_sink before now (WrongJulia text) h = tt
 unprinted_sink before now (NotBuilt word) h = tt
 unprinted_sink before now Memory h = tt
@@ -98,7 +110,11 @@ refuses_as One Other is (UnknownPackage uuid) h = is (UnknownPackage uuid) h
 refuses_as One Other is (AmbiguousName first second) h = is (AmbiguousName first second) h
 refuses_as One Other is (Limit kind count) h = is (Limit kind count) h
 refuses_as One Other is (Differs difference) h = is (Differs difference) h
+refuses_as One Other is (NotInProject name) h = is (NotInProject name) h
 refuses_as One Other is (NotInManifest name) h = is (NotInManifest name) h
+refuses_as One Other is (NotPinned name) h = is (NotPinned name) h
+refuses_as One Other is (NotAProject path) h = is (NotAProject path) h
+refuses_as One Other is (NameTaken uuid) h = is (NameTaken uuid) h
 refuses_as One Other is (WrongJulia text) h = is (WrongJulia text) h
 refuses_as One Other is (NotBuilt word) h = is (NotBuilt word) h
 refuses_as One Other is Memory h = tt

@@ -96,7 +96,3 @@ IsPrinted line old new StatusOk = new ≡ option_map (λ text. text ++ line) old
 IsPrinted line old new SinkFault = (kept : ℕ) × (new ≡ option_map (λ text. text ++ take kept line) old)
 IsPrinted line old new Memory = new ≡ old
 IsPrinted line old new _ = ⊥
-
--- the refusal by the words, or the answer after them
-abbrev pub AnswersTimely : Option Status → Result (String Global) Status → Type 0
-AnswersTimely early answer = MatchResult answer (λ line. early ≡ None) (IsTimely early)

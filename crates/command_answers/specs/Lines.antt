@@ -5,15 +5,15 @@ use Rattle.uuid.specs.Text.{hyphenated_text, lower}
 use Rattle.pkg_world.specs.Path.{path_text}
 use Rattle.pkg_world.specs.TreeIds.{tree_text}
 use Rattle.pkg_world.specs.declared.cause.Cause.{Cause}
-use Rattle.pkg_world.specs.declared.cause.Cause.TheVariants.{BadToml, Deep, BadShape, BadVersion, BadSpec, Clash, SameUuid, Dangling, Unclear}
+use Rattle.pkg_world.specs.declared.cause.Cause.TheVariants.{BadToml, Deep, BadDate, BadShape, BadVersion, BadSpec, Clash, SameUuid, Dangling, Unclear, BadLog}
 use Rattle.pkg_world.specs.declared.cause.LimitKind.{LimitKind}
 use Rattle.pkg_world.specs.declared.cause.LimitKind.TheVariants.{Packages, States, Bits, Cells, TreeDepth, TreeFiles}
 use Rattle.selection_check.specs.declared.verdict.Verdict.{Verdict}
 use Rattle.selection_check.specs.declared.verdict.Verdict.TheVariants.{Good, MissingRoot, NoOffer, MissingDep, Outside, PinBroken, Unneeded}
 use Rattle.command_answers.specs.declared.status.Difference.{Difference}
-use Rattle.command_answers.specs.declared.status.Difference.TheVariants.{Broken, Trees}
+use Rattle.command_answers.specs.declared.status.Difference.TheVariants.{Broken, Trees, Log}
 use Rattle.command_answers.specs.declared.status.Status.{Status}
-use Rattle.command_answers.specs.declared.status.Status.TheVariants.{Ok as StatusOk, BadWords, MissingFile, BadFile, NeedsFetch, NoIdentity, NoSource, Unsatisfiable, GaveUp, ReadFault, WriteFault, Blocked, UnknownName, UnknownPackage, AmbiguousName, Limit, Differs, NotInManifest, WrongJulia, NotBuilt, Memory, SinkFault}
+use Rattle.command_answers.specs.declared.status.Status.TheVariants.{Ok as StatusOk, BadWords, MissingFile, BadFile, NeedsFetch, NoIdentity, NoSource, Unsatisfiable, GaveUp, ReadFault, WriteFault, Blocked, UnknownName, UnknownPackage, AmbiguousName, Limit, Differs, NotInProject, NotInManifest, NotPinned, NotAProject, NameTaken, WrongJulia, NotBuilt, Memory, SinkFault}
 
 -- an identifier in lower case with hyphens, nil as `-`
 abbrev pub uuid_text : Option (List ℕ) → List ℕ
@@ -28,6 +28,7 @@ two first second = first ++ (codes " " ++ second)
 abbrev pub cause_text : Cause → List ℕ
 cause_text BadToml = codes "BadToml"
 cause_text Deep = codes "Deep"
+cause_text BadDate = codes "BadDate"
 cause_text (BadShape keys) = two (codes "BadShape") keys
 cause_text (BadVersion keys place) = two (codes "BadVersion") (two keys (decimal place))
 cause_text (BadSpec keys place) = two (codes "BadSpec") (two keys (decimal place))
@@ -35,6 +36,7 @@ cause_text (Clash name version first second) = two (codes "Clash") (two name (tw
 cause_text (SameUuid uuid) = two (codes "SameUuid") (hyphenated_text lower uuid)
 cause_text (Dangling stanza listed) = two (codes "Dangling") (two stanza listed)
 cause_text (Unclear stanza listed) = two (codes "Unclear") (two stanza listed)
+cause_text (BadLog line) = two (codes "BadLog") (decimal line)
 
 abbrev pub limit_text : LimitKind → List ℕ
 limit_text Packages = codes "Packages"
@@ -57,6 +59,7 @@ verdict_text (Unneeded uuid) = two (codes "Unneeded") (hyphenated_text lower uui
 abbrev pub difference_text : Difference → List ℕ
 difference_text (Broken verdict) = verdict_text verdict
 difference_text (Trees wanted found) = two (tree_text wanted) (tree_text found)
+difference_text (Log path) = path_text path
 
 -- `error`, the code and the name of a status, and what it carries
 abbrev pub error_line : List ℕ → List ℕ → List ℕ
@@ -81,7 +84,11 @@ status_line (UnknownPackage uuid) = error_line (codes "10 UnknownPackage") (hyph
 status_line (AmbiguousName first second) = error_line (codes "11 AmbiguousName") (two (hyphenated_text lower first) (hyphenated_text lower second))
 status_line (Limit kind count) = error_line (codes "12 Limit") (two (limit_text kind) (decimal count))
 status_line (Differs difference) = error_line (codes "13 Differs") (difference_text difference)
+status_line (NotInProject name) = error_line (codes "14 NotInProject") name
 status_line (NotInManifest name) = error_line (codes "14 NotInManifest") name
+status_line (NotPinned name) = error_line (codes "14 NotPinned") name
+status_line (NotAProject path) = error_line (codes "14 NotAProject") (path_text path)
+status_line (NameTaken uuid) = error_line (codes "14 NameTaken") (uuid_text uuid)
 status_line (WrongJulia text) = error_line (codes "14 WrongJulia") text
 status_line (NotBuilt word) = error_line (codes "17 NotBuilt") word
 status_line Memory = codes "error 15 Memory" ++ 10 ∷ []
@@ -106,7 +113,11 @@ code_of (UnknownPackage uuid) = 10
 code_of (AmbiguousName first second) = 11
 code_of (Limit kind count) = 12
 code_of (Differs difference) = 13
+code_of (NotInProject name) = 14
 code_of (NotInManifest name) = 14
+code_of (NotPinned name) = 14
+code_of (NotAProject path) = 14
+code_of (NameTaken uuid) = 14
 code_of (WrongJulia text) = 14
 code_of Memory = 15
 code_of SinkFault = 16

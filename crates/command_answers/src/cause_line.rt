@@ -14,6 +14,7 @@ pub(crate) fn cause_text(alloc: Global, cause: &Cause) -> Result<String, AllocEr
     match cause {
         Cause::BadToml => String::from_str(alloc, "BadToml"),
         Cause::Deep => String::from_str(alloc, "Deep"),
+        Cause::BadDate => String::from_str(alloc, "BadDate"),
         Cause::BadShape(keys) => two_words(alloc, "BadShape", keys.as_str()),
         Cause::BadVersion(keys, place) => placed_text(alloc, "BadVersion", keys.as_str(), *place),
         Cause::BadSpec(keys, place) => placed_text(alloc, "BadSpec", keys.as_str(), *place),
@@ -23,6 +24,7 @@ pub(crate) fn cause_text(alloc: Global, cause: &Cause) -> Result<String, AllocEr
         Cause::SameUuid(uuid) => same_uuid_text(alloc, uuid),
         Cause::Dangling(stanza, listed) => listed_text(alloc, "Dangling", stanza, listed),
         Cause::Unclear(stanza, listed) => listed_text(alloc, "Unclear", stanza, listed),
+        Cause::BadLog(line) => bad_log_text(alloc, *line),
     }
 }
 
@@ -52,6 +54,12 @@ fn placed_text(alloc: Global, name: &str, keys: &str, place: u64) -> Result<Stri
     ensures { IfOk result (λ text. string_bytes text ≡ two name.now (two keys.now (decimal place))) }
 {
     format!(in alloc; "{name} {keys} {place}")
+}
+
+fn bad_log_text(alloc: Global, line: u64) -> Result<String, AllocError>
+    ensures { IfOk result (λ text. string_bytes text ≡ two (codes "BadLog") (decimal line)) }
+{
+    format!(in alloc; "BadLog {line}")
 }
 
 fn clash_text(

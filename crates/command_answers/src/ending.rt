@@ -1,4 +1,5 @@
-//! How a command ends well.
+//! How a command ends when no refusal is due before its files are replaced.
+use crate::status::Status;
 use pkg_world::{Bytes, Listed, NormPath};
 
 /// A file that is to be replaced, and by which bytes.
@@ -11,9 +12,10 @@ pub struct Write {
 /// Files that are to be replaced, in this order.
 pub type Writes = Listed<Write>;
 
-/// How a command ends well: what it prints, and the files that it replaces before that.
+/// How a command ends: the files that it replaces, and then the line that it prints, or the refusal that it tells. (A
+/// refusal that replaces a file is that of `resolve --proof`; every other one comes before anything is replaced.)
 #[derive(Debug, Drop)]
 pub struct Ending {
-    pub line: String,
     pub writes: Writes,
+    pub told: Result<String, Status>,
 }

@@ -38,6 +38,8 @@ pub enum Difference {
     Broken(Verdict),
     /// The tree that a stanza names, and that of the installed folder.
     Trees(TreeId, TreeId),
+    /// The log of this file, which does not show that no selection exists.
+    Log(NormPath),
 }
 
 /// The status of a command.
@@ -77,8 +79,16 @@ pub enum Status {
     Limit(LimitKind, u64),
     /// What was compared is not the same.
     Differs(Difference),
+    /// The project has no dependency of this name.
+    NotInProject(Name),
     /// No stanza of the manifest has this name.
     NotInManifest(Name),
+    /// The package of this name is not pinned, and not fixed by the manifest alone.
+    NotPinned(Name),
+    /// This folder has no project file with a name and an identifier.
+    NotAProject(NormPath),
+    /// The name is taken by this package, which has no identifier where it is the project's own and that has none.
+    NameTaken(Option<Uuid>),
     /// The project's compat on Julia, of this text, does not hold Julia's version.
     WrongJulia(Text),
     /// This version does not have that yet.
@@ -112,7 +122,11 @@ impl Status {
             Status::AmbiguousName(..) => 11,
             Status::Limit(..) => 12,
             Status::Differs(_) => 13,
+            Status::NotInProject(_) => 14,
             Status::NotInManifest(_) => 14,
+            Status::NotPinned(_) => 14,
+            Status::NotAProject(_) => 14,
+            Status::NameTaken(_) => 14,
             Status::WrongJulia(_) => 14,
             Status::Memory => 15,
             Status::SinkFault => 16,
@@ -143,7 +157,7 @@ pub fn status_line(alloc: Global, status: &Status) -> Result<String, AllocError>
         Status::BadFile(path, cause) => bad_file_line(alloc, path, cause),
         Status::NeedsFetch(name) => error_line(alloc, "3 NeedsFetch", name.as_str()),
         Status::NoIdentity(name) => error_line(alloc, "4 NoIdentity", name.as_str()),
-        Status::NoSource(uuid) => no_source_line(alloc, uuid),
+        Status::NoSource(uuid) => identity_line(alloc, "5 NoSource", uuid),
         Status::Unsatisfiable(log) => log_line(alloc, "6 Unsatisfiable", log),
         Status::GaveUp(log) => log_line(alloc, "7 GaveUp", log),
         Status::ReadFault(path) => error_line(alloc, "8 ReadFault", path.as_str()),
@@ -154,7 +168,11 @@ pub fn status_line(alloc: Global, status: &Status) -> Result<String, AllocError>
         Status::AmbiguousName(first, second) => ambiguous_line(alloc, first, second),
         Status::Limit(kind, count) => limit_line(alloc, kind, *count),
         Status::Differs(difference) => differs_line(alloc, difference),
+        Status::NotInProject(name) => error_line(alloc, "14 NotInProject", name.as_str()),
         Status::NotInManifest(name) => error_line(alloc, "14 NotInManifest", name.as_str()),
+        Status::NotPinned(name) => error_line(alloc, "14 NotPinned", name.as_str()),
+        Status::NotAProject(path) => error_line(alloc, "14 NotAProject", path.as_str()),
+        Status::NameTaken(uuid) => identity_line(alloc, "14 NameTaken", uuid),
         Status::WrongJulia(text) => error_line(alloc, "14 WrongJulia", text.as_str()),
         Status::NotBuilt(word) => error_line(alloc, "17 NotBuilt", word.as_str()),
         Status::Memory => String::from_str(alloc, "error 15 Memory\n"),
@@ -232,6 +250,7 @@ fn differs_line(alloc: Global, difference: &Difference) -> Result<String, AllocE
     match difference {
         Difference::Broken(verdict) => broken_line(alloc, verdict),
         Difference::Trees(wanted, found) => trees_line(alloc, wanted, found),
+        Difference::Log(path) => error_line(alloc, "13 Differs", path.as_str()),
     }
 }
 
@@ -250,11 +269,12 @@ fn trees_line(alloc: Global, wanted: &TreeId, found: &TreeId) -> Result<String, 
     two_carried(alloc, "13 Differs", wanted.as_str(), found.as_str())
 }
 
-fn no_source_line(alloc: Global, uuid: &Option<Uuid>) -> Result<String, AllocError>
-    ensures { IfOk result (λ line. string_bytes line ≡ line_with (codes "5 NoSource") (text_of_uuid uuid.now)) }
+/// The line of a status that carries an identifier, nil as `-`.
+fn identity_line(alloc: Global, head: &str, uuid: &Option<Uuid>) -> Result<String, AllocError>
+    ensures { IfOk result (λ line. string_bytes line ≡ line_with head.now (text_of_uuid uuid.now)) }
 {
     let text = uuid_text(alloc, uuid)?;
-    error_line(alloc, "5 NoSource", text.as_str())
+    error_line(alloc, head, text.as_str())
 }
 
 /// An identifier in lower case with hyphens, nil as `-`. The one error is want of memory.

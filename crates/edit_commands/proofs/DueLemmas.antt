@@ -21,7 +21,7 @@ use Rattle.resolve_core.specs.Resolved.{IsAnswer}
 use Rattle.resolve_core.specs.Laws.{ResolvedIsBest, UnsatisfiableIsNone, GivenUpIsSpent}
 use Rattle.command_answers.specs.Endings.{SaidEnding}
 use Rattle.command_answers.specs.declared.status.Status.{Status}
-use Rattle.command_answers.specs.declared.status.Status.TheVariants.{Ok as StatusOk, BadWords, MissingFile, BadFile, NeedsFetch, NoIdentity, NoSource, Unsatisfiable, GaveUp, ReadFault, WriteFault, Blocked, UnknownName, UnknownPackage, AmbiguousName, Limit, Differs, NotInManifest, WrongJulia, NotBuilt, Memory, SinkFault}
+use Rattle.command_answers.specs.declared.status.Status.TheVariants.{Ok as StatusOk, BadWords, MissingFile, BadFile, NeedsFetch, NoIdentity, NoSource, Unsatisfiable, GaveUp, ReadFault, WriteFault, Blocked, UnknownName, UnknownPackage, AmbiguousName, Limit, Differs, NotInProject, NotInManifest, NotPinned, NotAProject, NameTaken, WrongJulia, NotBuilt, Memory, SinkFault}
 use Rattle.edit_commands.specs.ResolveDue.{Question, Posed, question_of, IsFoundEnding, IsStopped, IsFound, IsEnding, IsNone, IsSpent, IsRefusal, IsAnswerTo}
 
 module _ (offers_law : BookOffersAreAll) (numbers_law : NumbersAreReached) (valid_law : ValidAlike) (raised_law : RaisedAlike) (cut_law : FeasibleInBook)
@@ -95,7 +95,11 @@ module _ (offers_law : BookOffersAreAll) (numbers_law : NumbersAreReached) (vali
   refusal (AmbiguousName first second) h = h
   refusal (Limit kind count) h = h
   refusal (Differs difference) h = h
+  refusal (NotInProject name) h = h
   refusal (NotInManifest name) h = h
+  refusal (NotPinned name) h = h
+  refusal (NotAProject path) h = h
+  refusal (NameTaken uuid) h = h
   refusal (WrongJulia text) h = h
   refusal (NotBuilt word) h = h
   refusal Memory h = h

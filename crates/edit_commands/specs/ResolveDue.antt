@@ -80,6 +80,10 @@ abbrev pub IsLine : List Packed → Wanted → Bool → Resolved → List ℕ �
 IsLine book w false resolved line = line ≡ resolved_line (length resolved.selection.items) resolved.nodes
 IsLine book w true resolved line = HasClasses book w resolved line
 
+abbrev pub TellsLine : List Packed → Wanted → Bool → Resolved → Result (List ℕ) Status → Type 0
+TellsLine book w classes resolved (Ok line) = IsLine book w classes resolved line
+TellsLine book w classes resolved (Err refusal) = ⊥
+
 -- the manifest alone is replaced, by a text that says the selection and reads back so; no extensions are looked for in trees
 pub record IsWritten (q : Question) (s : Selected) (writes : List (Path × List ℕ)) : Type 0 where
   pub text : List ℕ
@@ -90,7 +94,7 @@ pub record IsWritten (q : Question) (s : Selected) (writes : List (Path × List 
 -- what the question is resolved to within the budget, and how this is told
 pub record Tells (q : Question) (budget : ℕ) (classes : Bool) (resolved : Resolved) (e : SaidEnding) : Type 0 where
   pub resolves : IsResolved q.book q.wanted budget resolved
-  pub line : IsLine q.book q.wanted classes resolved e.line
+  pub line : TellsLine q.book q.wanted classes resolved e.told
   pub writes : IsWritten q resolved.selection.items e.writes
 
 -- ---- the answer

@@ -5,7 +5,7 @@ ghost use Rattle.book_graph.specs.Limits.{IsPast};
 ghost use Rattle.book_graph.specs.StandsFor.{IsBook};
 ghost use Rattle.resolve_core.specs.Resolved.{IsResolved};
 ghost use Rattle.command_answers.specs.Answers.{NoFault, IsLate, IsUnprinted};
-ghost use Rattle.command_answers.specs.Endings.{EndsBy, said_ending};
+ghost use Rattle.command_answers.specs.Endings.{EndsBy, TellsLate, said_ending};
 ghost use Rattle.edit_commands.specs.ResolveDue as spec;
 
 use crate::options::Options;
@@ -26,6 +26,7 @@ pub(crate) fn of_book(
 ) -> Result<Ending, Status>
     ensures answer { EndsBy (spec.IsFound (spec.question_of (wanted demand.now) catalog.now.home.manifest book) options.budget options.classes) result }
     ensures sound { IsBook book }
+    ensures told { IfOk result TellsLate }
     ensures late { IfErr result IsLate }
     ensures unprinted { IfErr result IsUnprinted }
     ensures fault { IfErr result NoFault }
@@ -50,6 +51,7 @@ fn of_resolved(
 ) -> Result<Ending, Status>
     requires { IsResolved book.now (wanted demand.now) options.budget resolved.now }
     ensures answer { EndsBy (spec.IsFound (spec.question_of (wanted demand.now) catalog.now.home.manifest book.now) options.budget options.classes) result }
+    ensures told { IfOk result TellsLate }
     ensures late { IfErr result IsLate }
     ensures unprinted { IfErr result IsUnprinted }
     ensures fault { IfErr result NoFault }
@@ -72,6 +74,7 @@ fn told(
 ) -> Result<Ending, GraphFault>
     requires { IsResolved book.now (wanted demand.now) options.budget resolved.now }
     ensures ok { IfOk result (λ ending. spec.Tells (spec.question_of (wanted demand.now) catalog.now.home.manifest book.now) options.budget options.classes resolved.now (said_ending ending)) }
+    ensures told { IfOk result TellsLate }
     ensures past { IfErr result (IsPast book.now (wanted demand.now)) }
 {
     let line = match line_of(alloc, options.classes, demand, book, resolved) {
@@ -79,5 +82,8 @@ fn told(
         Err(fault) => return Err(fault),
     };
     let writes = writes_of(alloc, catalog, demand, book, &resolved.selection)?;
-    Ok(Ending { line, writes })
+    Ok(Ending {
+        writes,
+        told: Ok(line),
+    })
 }

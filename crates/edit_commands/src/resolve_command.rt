@@ -1,11 +1,11 @@
 //! `resolve`: the phases before the packages are chosen.
-ghost use Rattle.std.specs.Prelude.{◌≡◌, ◌≤◌, IfSome, IfErr};
+ghost use Rattle.std.specs.Prelude.{◌≡◌, ◌≤◌, IfSome, IfOk, IfErr};
 ghost use Rattle.project_file.specs.Said.{said as said_project};
 ghost use Rattle.manifest_file.specs.Said.{said as said_manifest};
 ghost use Rattle.offer_terms.specs.Demanded.{wanted};
 ghost use Rattle.project_phases.specs.Phases.{seen as seen_opened};
 ghost use Rattle.command_answers.specs.Answers.{ReadFaultRose, IsLate, IsUnprinted};
-ghost use Rattle.command_answers.specs.Endings.{EndsBy};
+ghost use Rattle.command_answers.specs.Endings.{EndsBy, TellsLate};
 ghost use Rattle.edit_commands.specs.ResolveDue as spec;
 
 use crate::answering::of_book;
@@ -37,6 +37,7 @@ pub fn resolve_project<S: Store>(
     store: &mut S,
 ) -> Result<Ending, Status>
     ensures answer { IfSome (S.files store.old) (λ all. EndsBy (spec.IsDue all place.now budget classes) result) }
+    ensures told { IfOk result TellsLate }
     ensures late { IfErr result IsLate }
     ensures unprinted { IfErr result IsUnprinted }
     ensures fault { IfErr result (ReadFaultRose (S.read_faults store.old) (S.read_faults store.new)) }
@@ -60,6 +61,7 @@ fn of_opened<S: Store>(
     opened: Opened,
 ) -> Result<Ending, Status>
     ensures answer { IfSome (S.files store.old) (λ all. EndsBy (spec.IsAnswerOn (spec.with_opened all place.now (seen_opened opened)) options.budget options.classes) result) }
+    ensures told { IfOk result TellsLate }
     ensures late { IfErr result IsLate }
     ensures unprinted { IfErr result IsUnprinted }
     ensures fault { IfErr result (ReadFaultRose (S.read_faults store.old) (S.read_faults store.new)) }
@@ -87,6 +89,7 @@ fn of_demand<S: Store>(
     demand: &Demand,
 ) -> Result<Ending, Status>
     ensures answer { IfSome (S.files store.old) (λ all. EndsBy (spec.IsAnswerOn (spec.with_demand all catalog.now (wanted demand.now)) options.budget options.classes) result) }
+    ensures told { IfOk result TellsLate }
     ensures late { IfErr result IsLate }
     ensures unprinted { IfErr result IsUnprinted }
     ensures fault { IfErr result (ReadFaultRose (S.read_faults store.old) (S.read_faults store.new)) }

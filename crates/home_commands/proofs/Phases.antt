@@ -1,7 +1,7 @@
 -- A refusal of a first phase is that of the whole answer.
 use Rattle.std.proofs.Common.{Option, Some, None, IfSome, Result, ap}
 use Rattle.command_answers.specs.declared.status.Status.{Status}
-use Rattle.command_answers.specs.declared.status.Status.TheVariants.{Ok as StatusOk, BadWords, MissingFile, BadFile, NeedsFetch, NoIdentity, NoSource, Unsatisfiable, GaveUp, ReadFault, WriteFault, Blocked, UnknownName, UnknownPackage, AmbiguousName, Limit, Differs, NotInManifest, WrongJulia, NotBuilt, Memory, SinkFault}
+use Rattle.command_answers.specs.declared.status.Status.TheVariants.{Ok as StatusOk, BadWords, MissingFile, BadFile, NeedsFetch, NoIdentity, NoSource, Unsatisfiable, GaveUp, ReadFault, WriteFault, Blocked, UnknownName, UnknownPackage, AmbiguousName, Limit, Differs, NotInProject, NotInManifest, NotPinned, NotAProject, NameTaken, WrongJulia, NotBuilt, Memory, SinkFault}
 use Rattle.command_answers.specs.Answers.{Refuses}
 use Rattle.pkg_world.specs.Each.{then_ok}
 
@@ -23,7 +23,11 @@ refused_then phase next (UnknownPackage uuid) h = ap (λ r. then_ok r next) h
 refused_then phase next (AmbiguousName first second) h = ap (λ r. then_ok r next) h
 refused_then phase next (Limit kind count) h = ap (λ r. then_ok r next) h
 refused_then phase next (Differs difference) h = ap (λ r. then_ok r next) h
+refused_then phase next (NotInProject name) h = ap (λ r. then_ok r next) h
 refused_then phase next (NotInManifest name) h = ap (λ r. then_ok r next) h
+refused_then phase next (NotPinned name) h = ap (λ r. then_ok r next) h
+refused_then phase next (NotAProject path) h = ap (λ r. then_ok r next) h
+refused_then phase next (NameTaken uuid) h = ap (λ r. then_ok r next) h
 refused_then phase next (WrongJulia text) h = ap (λ r. then_ok r next) h
 refused_then phase next (NotBuilt word) h = ap (λ r. then_ok r next) h
 refused_then phase next Memory h = tt

@@ -1,3 +1,1 @@
 pub mod Depots
-mod LeftLemmas
-mod OtherLemmas

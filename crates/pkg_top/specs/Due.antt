@@ -1,6 +1,6 @@
 -- What a command is due to end with, by its words, its place and the files: the line that it prints and the files that it
 -- replaces, or its refusal.
-use Rattle.std.specs.Prelude.{◌≡◌, ℕ, List, [], Option, Some, None, Result, Ok, Err, IfOk, MatchResult, String}
+use Rattle.std.specs.Prelude.{◌≡◌, ℕ, List, [], Option, Some, None, Result, Ok, Err, IsOk, IfOk, MatchResult, String}
 use Rattle.std.specs.declared.alloc.Global.{Global}
 use Rattle.pkg_world.specs.declared.place.Place.{Place}
 use Rattle.pkg_world.specs.Tree.{Files}
@@ -54,9 +54,14 @@ IsAnswerOf files place (resolve budget classes) answer = ⊥
 IsAnswerOf files place (refused_words word) answer = Err (BadWords word) ≡ answer
 IsAnswerOf files place (not_built word) answer = Err (NotBuilt word) ≡ answer
 
+-- a line, which is due
+abbrev pub IsLine : (Result (List ℕ) Status → Type 0) → Result (List ℕ) Status → Type 0
+IsLine IsIt (Ok line) = IsIt (Ok line)
+IsLine IsIt (Err refusal) = ⊥
+
 -- the line that is due, and no file is replaced
 abbrev pub IsPlain : (Result (List ℕ) Status → Type 0) → Result SaidEnding Status → Type 0
-IsPlain IsIt (Ok it) = (it.writes ≡ []) × IsIt (Ok it.line)
+IsPlain IsIt (Ok it) = (it.writes ≡ []) × IsLine IsIt it.told
 IsPlain IsIt (Err refusal) = IsIt (Err refusal)
 
 -- what each command is due to end with
@@ -74,7 +79,7 @@ IsDue files place words answer = IsDueAfter files place (early_due words) (asked
 
 -- a line as an ending without files
 abbrev pub IsEndingWith : Result (String Global) Status → Result Ending Status → Type 0
-IsEndingWith answer (Ok it) = (answer ≡ Ok it.line) × (it.writes.items ≡ [])
+IsEndingWith answer (Ok it) = (answer ≡ it.told) × IsOk it.told × (it.writes.items ≡ [])
 IsEndingWith answer (Err refusal) = answer ≡ Err refusal
 
 -- the refusal by the words, or the ending after them

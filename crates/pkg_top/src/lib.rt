@@ -2,7 +2,6 @@
 #![tactic(auto)]
 
 mod early;
-mod laws;
 mod place;
 mod telling;
 mod top;
@@ -10,6 +9,6 @@ mod which;
 mod writing;
 
 pub use command_answers::{Difference, Ended, Status, Told};
-pub use laws::others_stay;
+pub use file_replacing::others_stay;
 pub use place::{PlaceFault, place_from};
 pub use top::run;

@@ -1,7 +1,7 @@
 //! The top call.
-ghost use Rattle.std.specs.Prelude.{◌≡◌, ◌≤◌, None, IfSome, IfErr};
+ghost use Rattle.std.specs.Prelude.{◌≡◌, ◌≤◌, None, IfSome, IfOk, IfErr};
 ghost use Rattle.command_answers.specs.Answers.{IsLate, IsTimely, ReadFaultRose, WriteFaultRose, SinkFaultRose, PrintsOnlyAtOk, IsUnprinted, Tells};
-ghost use Rattle.command_answers.specs.Endings.{EndsBy};
+ghost use Rattle.command_answers.specs.Endings.{EndsBy, TellsLate};
 ghost use Rattle.check_command.specs.Answered.{AnswersBy};
 ghost use Rattle.command_words.specs.Seen.{asked_of, texts};
 ghost use Rattle.command_words.specs.Words.{asked as meant};
@@ -58,7 +58,7 @@ pub fn run<S: Store, O: Sink, E: Sink>(
     ensures err_later { E.faults err.old ≤ E.faults err.new }
 {
     match answer(alloc, words, place, store) {
-        Ok(ending) => finish(alloc, &ending, store, out, err),
+        Ok(ending) => finish(alloc, ending, store, out, err),
         Err(status) => refuse(alloc, status, err),
     }
 }
@@ -73,6 +73,7 @@ fn answer<S: Store>(
     ensures answer { IfSome (S.files store.old) (λ all. EndsBy (IsDue all place.now (texts words.now)) result) }
     ensures timely { EndsTimely (early_due (texts words.now)) result }
     ensures still { IsStill (meant (texts words.now)) result }
+    ensures told { IfOk result TellsLate }
     ensures fault { IfErr result (ReadFaultRose (S.read_faults store.old) (S.read_faults store.new)) }
     ensures unprinted { IfErr result IsUnprinted }
     ensures files { S.files store.new ≡ S.files store.old }
@@ -95,6 +96,7 @@ fn answer_to<S: Store>(
     requires { early_of (asked_of asked) ≡ None }
     ensures answer { IfSome (S.files store.old) (λ all. EndsBy (IsEndingOf all place.now (asked_of asked)) result) }
     ensures still { IsStill (asked_of asked) result }
+    ensures told { IfOk result TellsLate }
     ensures late { IfErr result IsLate }
     ensures fault { IfErr result (ReadFaultRose (S.read_faults store.old) (S.read_faults store.new)) }
     ensures unprinted { IfErr result IsUnprinted }
@@ -116,8 +118,8 @@ fn ending_with(alloc: Global, answer: Result<String, Status>) -> Result<Ending, 
 {
     match answer {
         Ok(line) => Ok(Ending {
-            line,
             writes: Writes::make(alloc),
+            told: Ok(line),
         }),
         Err(status) => Err(status),
     }

@@ -26,6 +26,8 @@ pub enum Cause {
     BadToml,
     /// The nesting of the tables and lists passes 64.
     Deep,
+    /// A date of the file is none that can be written again.
+    BadDate,
     /// The value at this key path has another kind, or a needed key is absent.
     BadShape(Text),
     /// The text at this key path, or the last key of it, is no version; the place is the length of its longest front
@@ -42,4 +44,6 @@ pub enum Cause {
     Dangling(Name, Name),
     /// The first name's stanza lists the second name, which several stanzas have.
     Unclear(Name, Name),
+    /// The first line, counted from 1, that is outside the text of a log.
+    BadLog(u64),
 }

@@ -4,9 +4,9 @@ use Rattle.pkg_world.specs.Outside.{written}
 use Rattle.pkg_world.specs.Tree.{Files}
 use Rattle.command_answers.specs.declared.ending.Write.{Write}
 use Rattle.command_answers.specs.declared.status.Status.{Status}
-use Rattle.command_answers.specs.declared.status.Status.TheVariants.{Ok as StatusOk, BadWords, MissingFile, BadFile, NeedsFetch, NoIdentity, NoSource, Unsatisfiable, GaveUp, ReadFault, WriteFault, Blocked, UnknownName, UnknownPackage, AmbiguousName, Limit, Differs, NotInManifest, WrongJulia, NotBuilt, Memory, SinkFault}
+use Rattle.command_answers.specs.declared.status.Status.TheVariants.{Ok as StatusOk, BadWords, MissingFile, BadFile, NeedsFetch, NoIdentity, NoSource, Unsatisfiable, GaveUp, ReadFault, WriteFault, Blocked, UnknownName, UnknownPackage, AmbiguousName, Limit, Differs, NotInProject, NotInManifest, NotPinned, NotAProject, NameTaken, WrongJulia, NotBuilt, Memory, SinkFault}
 use Rattle.command_answers.specs.Endings.{SaidWrite, said_write}
-use Rattle.pkg_top.specs.Left.{AreWritten, IsStopped, Stops, Replaces, ReplacesOne}
+use Rattle.file_replacing.specs.Replacing.{AreWritten, IsStopped, Stops, Replaces, ReplacesOne}
 
 -- ---- replacing
 
@@ -32,7 +32,11 @@ stops_first write more old new (UnknownPackage uuid) h = absurd h
 stops_first write more old new (AmbiguousName first second) h = absurd h
 stops_first write more old new (Limit kind count) h = absurd h
 stops_first write more old new (Differs difference) h = absurd h
+stops_first write more old new (NotInProject name) h = absurd h
 stops_first write more old new (NotInManifest name) h = absurd h
+stops_first write more old new (NotPinned name) h = absurd h
+stops_first write more old new (NotAProject path) h = absurd h
+stops_first write more old new (NameTaken uuid) h = absurd h
 stops_first write more old new (WrongJulia text) h = absurd h
 stops_first write more old new (NotBuilt word) h = absurd h
 stops_first write more old new Memory h = record { done = []; rest = write ∷ more; split = refl; are_written = h }
@@ -62,7 +66,11 @@ stops_later write more old mid new one (UnknownPackage uuid) h = absurd h
 stops_later write more old mid new one (AmbiguousName first second) h = absurd h
 stops_later write more old mid new one (Limit kind count) h = absurd h
 stops_later write more old mid new one (Differs difference) h = absurd h
+stops_later write more old mid new one (NotInProject name) h = absurd h
 stops_later write more old mid new one (NotInManifest name) h = absurd h
+stops_later write more old mid new one (NotPinned name) h = absurd h
+stops_later write more old mid new one (NotAProject path) h = absurd h
+stops_later write more old mid new one (NameTaken uuid) h = absurd h
 stops_later write more old mid new one (WrongJulia text) h = absurd h
 stops_later write more old mid new one (NotBuilt word) h = absurd h
 stops_later write more old mid new one Memory h = record { done = write ∷ h.done; rest = h.rest; split = ap (λ l. write ∷ l) h.split; are_written = (mid, one, h.are_written) }
@@ -100,7 +108,11 @@ untold_if writes new (UnknownPackage uuid) h = absurd h
 untold_if writes new (AmbiguousName first second) h = absurd h
 untold_if writes new (Limit kind count) h = absurd h
 untold_if writes new (Differs difference) h = absurd h
+untold_if writes new (NotInProject name) h = absurd h
 untold_if writes new (NotInManifest name) h = absurd h
+untold_if writes new (NotPinned name) h = absurd h
+untold_if writes new (NotAProject path) h = absurd h
+untold_if writes new (NameTaken uuid) h = absurd h
 untold_if writes new (WrongJulia text) h = absurd h
 untold_if writes new (NotBuilt word) h = absurd h
 untold_if writes new Memory h = untold_after h.done new h.are_written

@@ -3,8 +3,8 @@ use Rattle.std.proofs.Common.{◌≡◌, [], ◌∷◌, Option, Some, None, ap, 
 use Rattle.std.specs.Option.{option_map}
 use Rattle.pkg_world.specs.Tree.{Files, holds, a_file, with_leaf}
 use Rattle.pkg_world.specs.Writing.{WritingLaw}
-use Rattle.pkg_top.specs.Left.{OthersStay}
-use Rattle.pkg_top.proofs.LeftLemmas.{untold_after}
+use Rattle.file_replacing.specs.Replacing.{OthersStay}
+use Rattle.file_replacing.proofs.ReplaceLemmas.{untold_after}
 
 same_files : (one other : Files) → Some one ≡ Some other → one ≡ other
 same_files one other same = grind arith

@@ -3,8 +3,8 @@ use Rattle.std.proofs.Common.{◌≡◌, ◌≤◌, Option, Result, drop, map}
 use Rattle.pkg_world.specs.Tree.{Files}
 use Rattle.command_answers.specs.declared.status.Status.{Status}
 use Rattle.command_answers.specs.Endings.{said_write}
-use Rattle.pkg_top.specs.Left.{Replaces}
-use Rattle.pkg_top.proofs.writing.replace_all.Given as goal
+use Rattle.file_replacing.specs.Replacing.{Replaces}
+use Rattle.file_replacing.proofs.replacing.replace_each.Given as goal
 
 abbrev pub invariant-loop-write : goal.invariant-loop-write
 invariant-loop-write g l =

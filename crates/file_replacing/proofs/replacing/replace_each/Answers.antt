@@ -2,8 +2,8 @@
 use Rattle.std.proofs.Common.{◌∙◌, arith}
 use Rattle.std.proofs.lemmas.Result.{err_from_is_err_and}
 use Rattle.pkg_world.proofs.Each.{rest-step}
-use Rattle.pkg_top.proofs.LeftLemmas.{next_done, next_stops}
-use Rattle.pkg_top.proofs.writing.replace_all.Goals as goal
+use Rattle.file_replacing.proofs.ReplaceLemmas.{next_done, next_stops}
+use Rattle.file_replacing.proofs.replacing.replace_each.Goals as goal
 
 pub loop-write-preserved : goal.loop-write-preserved
 loop-write-preserved g c =

@@ -1,5 +1,5 @@
-//! What is true of the files that commands leave, as public functions without a body whose clause is the law.
-ghost use Rattle.pkg_top.specs.Left.{OthersStay};
+//! What is true of the files that replacing leaves, as public functions without a body whose clause is the law.
+ghost use Rattle.file_replacing.specs.Replacing.{OthersStay};
 
 use pkg_world::writing_sets_one_path;
 

@@ -1,0 +1,2 @@
+pub mod ReplaceLemmas
+mod OtherLemmas

@@ -1,5 +1,0 @@
-use Rattle.pkg_top.proofs.OtherLemmas.{others}
-use Rattle.pkg_top.proofs.laws.others_stay.Goals as goal
-
-pub returns : goal.returns
-returns c = others c.writing_sets_one_path.ensures.sets
