@@ -1,8 +1,9 @@
 -- What a command is due to end with, by its words, its place and the files: the line that it prints and the files that it
 -- replaces, or its refusal.
-use Rattle.std.specs.Prelude.{◌≡◌, ℕ, List, [], Option, Some, None, Result, Ok, Err, IsOk, IfOk, MatchResult, String}
+use Rattle.std.specs.Prelude.{◌≡◌, ℕ, List, [], codes, Option, Some, None, Result, Ok, Err, IsOk, IfOk, MatchResult, String}
 use Rattle.std.specs.declared.alloc.Global.{Global}
 use Rattle.pkg_world.specs.declared.place.Place.{Place}
+use Rattle.pkg_world.specs.Path.{Path}
 use Rattle.pkg_world.specs.Tree.{Files}
 use Rattle.command_answers.specs.declared.status.Status.{Status}
 use Rattle.command_answers.specs.declared.status.Status.TheVariants.{BadWords, NotBuilt}
@@ -10,9 +11,9 @@ use Rattle.command_answers.specs.declared.ending.Ending.{Ending}
 use Rattle.command_answers.specs.Answers.{RefusesEarly, IsTimely}
 use Rattle.command_answers.specs.Endings.{SaidEnding}
 use Rattle.command_words.specs.declared.words.Asked as code
-use Rattle.command_words.specs.Pieces.{Word}
+use Rattle.command_words.specs.Table.{Word}
 use Rattle.command_words.specs.Seen.{asked_of}
-use Rattle.command_words.specs.Words.{Asked, which, offers, status, verify, check, resolve, refused_words, not_built, asked}
+use Rattle.command_words.specs.Words.{Asked, which, offers, status, verify, check, resolve, add, remove, pin, free, develop, make, refused_words, not_built, asked}
 use Rattle.offers_command.specs.OffersDue.{offers_due}
 use Rattle.home_commands.specs.StatusDue.{status_due}
 use Rattle.home_commands.specs.VerifyDue.{verify_due}
@@ -20,39 +21,47 @@ use Rattle.check_command.specs.CheckDue.{IsDue as IsCheckDue}
 use Rattle.edit_commands.specs.ResolveDue.{IsDue as IsResolveDue}
 use Rattle.pkg_top.specs.WhichDue.{which_due}
 
+-- a command that this version does not have yet, by its word
+abbrev pub unbuilt : List ℕ → Option Status
+unbuilt word = Some (NotBuilt word)
+
 -- the refusal that is due by the words alone
 abbrev pub early_of : Asked → Option Status
 early_of (which name context) = None
 early_of (offers name) = None
-early_of (status all) = None
+early_of (status all extensions) = None
 early_of (verify name list) = None
-early_of check = None
-early_of (resolve budget classes) = None
+early_of (check proof) = None
+early_of (resolve budget classes proof) = None
+early_of (add named budget) = unbuilt (codes "add")
+early_of (remove names budget) = unbuilt (codes "rm")
+early_of (pin name version budget) = unbuilt (codes "pin")
+early_of (free name budget) = unbuilt (codes "free")
+early_of (develop path budget) = unbuilt (codes "develop")
+early_of (make number budget) = unbuilt (codes "make")
 early_of (refused_words word) = Some (BadWords word)
 early_of (not_built word) = Some (NotBuilt word)
 
-abbrev pub early_due : List Word → Option Status
-early_due words = early_of (asked words)
+abbrev pub early_due : Path → List Word → Option Status
+early_due cwd words = early_of (asked cwd words)
 
 -- what is asked where the words alone are not refused
-abbrev pub AsksFor : List Word → Result code.Asked Status → Type 0
-AsksFor words answer = MatchResult answer (λ found. (early_due words ≡ None) × (asked words ≡ asked_of found)) (RefusesEarly (early_due words))
+abbrev pub AsksFor : Path → List Word → Result code.Asked Status → Type 0
+AsksFor cwd words answer = MatchResult answer (λ found. (early_due cwd words ≡ None) × (asked cwd words ≡ asked_of found)) (RefusesEarly (early_due cwd words))
 
 -- what is asked replaces no file
 abbrev pub IsReading : Asked → Type 0
-IsReading (resolve budget classes) = ⊥
+IsReading (resolve budget classes proof) = ⊥
 IsReading _ = Unit {0}
 
 -- what each command that replaces no file is due to answer; a verdict is due by a relation
 abbrev pub IsAnswerOf : Files → Place → Asked → Result (List ℕ) Status → Type 0
 IsAnswerOf files place (which name context) answer = which_due files place context name ≡ answer
 IsAnswerOf files place (offers name) answer = offers_due files place name ≡ answer
-IsAnswerOf files place (status all) answer = status_due files place all ≡ answer
+IsAnswerOf files place (status all extensions) answer = status_due files place all extensions ≡ answer
 IsAnswerOf files place (verify name list) answer = verify_due files place name list ≡ answer
-IsAnswerOf files place check answer = IsCheckDue files place answer
-IsAnswerOf files place (resolve budget classes) answer = ⊥
-IsAnswerOf files place (refused_words word) answer = Err (BadWords word) ≡ answer
-IsAnswerOf files place (not_built word) answer = Err (NotBuilt word) ≡ answer
+IsAnswerOf files place (check proof) answer = IsCheckDue files place proof answer
+IsAnswerOf files place _ answer = ⊥
 
 -- a line, which is due
 abbrev pub IsLine : (Result (List ℕ) Status → Type 0) → Result (List ℕ) Status → Type 0
@@ -66,7 +75,7 @@ IsPlain IsIt (Err refusal) = IsIt (Err refusal)
 
 -- what each command is due to end with
 abbrev pub IsEndingOf : Files → Place → Asked → Result SaidEnding Status → Type 0
-IsEndingOf files place (resolve budget classes) answer = IsResolveDue files place budget classes answer
+IsEndingOf files place (resolve budget classes proof) answer = IsResolveDue files place budget classes proof answer
 IsEndingOf files place asked answer = IsPlain (IsAnswerOf files place asked) answer
 
 abbrev pub IsDueAfter : Files → Place → Option Status → Asked → Result SaidEnding Status → Type 0
@@ -75,7 +84,7 @@ IsDueAfter files place (Some refusal) asked answer = Err refusal ≡ answer
 
 -- the answer is due: the refusal by the words alone, else that of the command
 abbrev pub IsDue : Files → Place → List Word → Result SaidEnding Status → Type 0
-IsDue files place words answer = IsDueAfter files place (early_due words) (asked words) answer
+IsDue files place words answer = IsDueAfter files place (early_due place.cwd words) (asked place.cwd words) answer
 
 -- a line as an ending without files
 abbrev pub IsEndingWith : Result (String Global) Status → Result Ending Status → Type 0

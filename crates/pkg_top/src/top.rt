@@ -44,13 +44,13 @@ pub fn run<S: Store, O: Sink, E: Sink>(
     err: &mut E,
 ) -> Ended
     ensures due { IfSome (S.files store.old) (λ all. Ends (IsDue all place.now (texts words.now)) (S.files store.old) (S.files store.new) (O.text out.old) (O.text out.new) result.status) }
-    ensures timely { IsTimely (early_due (texts words.now)) result.status }
+    ensures timely { IsTimely (early_due place.now.cwd (texts words.now)) result.status }
     ensures quiet { PrintsOnlyAtOk (O.text out.old) (O.text out.new) result.status }
     ensures told { Tells (E.text err.old) (E.text err.new) (E.faults err.old) (E.faults err.new) result.status result.told }
     ensures read_fault { ReadFaultRose (S.read_faults store.old) (S.read_faults store.new) result.status }
     ensures write_fault { WriteFaultRose (S.write_faults store.old) (S.write_faults store.new) result.status }
     ensures sink_fault { SinkFaultRose (O.faults out.old) (O.faults out.new) result.status }
-    ensures reads { IsReading (meant (texts words.now)) → (S.files store.new ≡ S.files store.old) × (S.write_faults store.new ≡ S.write_faults store.old) }
+    ensures reads { IsReading (meant place.now.cwd (texts words.now)) → (S.files store.new ≡ S.files store.old) × (S.write_faults store.new ≡ S.write_faults store.old) }
     ensures untold { S.files store.old ≡ None → S.files store.new ≡ None }
     ensures later { S.read_faults store.old ≤ S.read_faults store.new }
     ensures write_later { S.write_faults store.old ≤ S.write_faults store.new }
@@ -71,8 +71,8 @@ fn answer<S: Store>(
     store: &mut S,
 ) -> Result<Ending, Status>
     ensures answer { IfSome (S.files store.old) (λ all. EndsBy (IsDue all place.now (texts words.now)) result) }
-    ensures timely { EndsTimely (early_due (texts words.now)) result }
-    ensures still { IsStill (meant (texts words.now)) result }
+    ensures timely { EndsTimely (early_due place.now.cwd (texts words.now)) result }
+    ensures still { IsStill (meant place.now.cwd (texts words.now)) result }
     ensures told { IfOk result TellsLate }
     ensures fault { IfErr result (ReadFaultRose (S.read_faults store.old) (S.read_faults store.new)) }
     ensures unprinted { IfErr result IsUnprinted }
@@ -80,7 +80,7 @@ fn answer<S: Store>(
     ensures later { S.read_faults store.old ≤ S.read_faults store.new }
     ensures other { S.write_faults store.new ≡ S.write_faults store.old }
 {
-    match asked_for(alloc, words) {
+    match asked_for(alloc, &place.cwd, words) {
         Ok(asked) => answer_to(alloc, asked, place, store),
         Err(status) => Err(status),
     }
@@ -105,9 +105,11 @@ fn answer_to<S: Store>(
     ensures other { S.write_faults store.new ≡ S.write_faults store.old }
 {
     match asked {
-        Asked::Resolve { budget, classes } => {
-            resolve_project(alloc, place, budget, classes, store)
-        }
+        Asked::Resolve {
+            budget,
+            classes,
+            proof,
+        } => resolve_project(alloc, place, budget, classes, &proof, store),
         asked => ending_with(alloc, reading(alloc, asked, place, store)),
     }
 }
@@ -145,10 +147,16 @@ fn reading<S: Store>(
     match asked {
         Asked::Which(name, context) => which(alloc, &name, &context, place, store),
         Asked::Offers(name) => offers(alloc, &name, place, store),
-        Asked::Status(all) => status_lines(alloc, all, place, store),
+        Asked::Status { all, extensions } => status_lines(alloc, all, extensions, place, store),
         Asked::Verify(name, list) => verify(alloc, &name, &list, place, store),
-        Asked::Check => check(alloc, place, store),
+        Asked::Check { proof } => check(alloc, place, &proof, store),
         Asked::Resolve { .. } => unreachable!(),
+        Asked::Add { .. } => unreachable!(),
+        Asked::Remove { .. } => unreachable!(),
+        Asked::Pin { .. } => unreachable!(),
+        Asked::Free { .. } => unreachable!(),
+        Asked::Develop { .. } => unreachable!(),
+        Asked::Make { .. } => unreachable!(),
         Asked::BadWords(_) => unreachable!(),
         Asked::NotBuilt(_) => unreachable!(),
     }
