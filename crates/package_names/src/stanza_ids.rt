@@ -26,10 +26,11 @@ pub(crate) fn stanza_ids(
     in_order(alloc, ids)
 }
 
-fn in_order(alloc: Global, mut left: BTreeSet<Uuid>) -> Result<Ids, AllocError>
-    ensures { IfOk result (λ list. list.items ≡ left.keys) }
+fn in_order(alloc: Global, ids: BTreeSet<Uuid>) -> Result<Ids, AllocError>
+    ensures { IfOk result (λ list. list.items ≡ ids.keys) }
 {
     let mut list = Listed::make(alloc);
+    let mut left = ids;
     'ids: while let Some(uuid) = left.pop_first() {
         list.push(uuid)?;
     }

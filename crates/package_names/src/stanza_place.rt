@@ -35,7 +35,7 @@ fn place_named(stanzas: &[Stanza], name: &Name) -> Option<usize>
     ensures within { IfSome result (λ place. place < length stanzas.now) }
 {
     let mut place = 0;
-    while place < stanzas.len() {
+    'places: while place < stanzas.len() {
         if stanzas[place].name.as_str() == name.as_str() {
             return Some(place);
         }
