@@ -2,7 +2,7 @@
 -- that is taken means none. Without an identifier the first place decides that has the name: `deps`, `weakdeps` and `extras`
 -- of the project, then the manifest's stanzas, then the catalog. One that is given must stand under the name in some place.
 --     added catalog project manifest name given     the identifier, or why the name means no package
-use Rattle.std.specs.Prelude.{ℕ, Bool, ◌&&◌, ◌||◌, if◌then◌else◌, List, [], ◌∷◌, map, filter, fold, Option, Some, None, Result, Ok, Err}
+use Rattle.std.specs.Prelude.{Bool, ◌&&◌, ◌||◌, if◌then◌else◌, List, [], ◌∷◌, map, filter, Option, Some, None, Result, Ok, Err}
 use Rattle.std.specs.List.{list_any}
 use Rattle.std.specs.Option.{option_or, option_to_list}
 use Rattle.std.specs.Str.{bytes_eq}

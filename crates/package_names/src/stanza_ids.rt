@@ -10,11 +10,7 @@ use std::collections::BTreeSet;
 use uuid::Uuid;
 
 /// The identifiers of the stanzas of a name, in the order of their bytes and each once. The one error is want of memory.
-pub(crate) fn stanza_ids(
-    alloc: Global,
-    stanzas: &[Stanza],
-    name: &Name,
-) -> Result<Ids, AllocError>
+pub(crate) fn stanza_ids(alloc: Global, stanzas: &[Stanza], name: &Name) -> Result<Ids, AllocError>
     ensures { IfOk result (λ ids. ids.items ≡ spec.stanza_ids name.now (map said_stanza stanzas.now)) }
 {
     let mut ids = BTreeSet::new(alloc);

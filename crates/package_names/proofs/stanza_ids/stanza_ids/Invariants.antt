@@ -1,5 +1,5 @@
 -- The stanzas so far are put, and the rest is to be put.
-use Rattle.std.proofs.Common.{◌≡◌, [], drop, filter, map}
+use Rattle.std.proofs.Common.{◌≡◌, drop, filter, map}
 use Rattle.std.specs.Str.{bytes_eq}
 use Rattle.manifest_file.specs.Said.{said_stanza}
 use Rattle.offer_catalog.specs.Named.{put_ids}
