@@ -1,4 +1,3 @@
-pub mod Pieces
-pub mod Budgets
-pub mod Words
+pub mod Table
+pub mod Found
 pub mod Seen
