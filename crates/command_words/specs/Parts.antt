@@ -33,16 +33,16 @@ marked mark read text =
     else option_map (λ name. (name, None)) (name_of text)
 
 -- a package: `NAME` or `NAME=UUID`
-abbrev pub package_of : Word → Option (Word × Option Uuid)
-package_of = marked (λ b. b == 61) parsed
+unfoldable pub package_of : Word → Option (Word × Option Uuid)
+package_of text = marked (λ b. b == 61) parsed text
 
 abbrev pub version_read : Result Version ℕ → Option Version
 version_read (Ok version) = Some version
 version_read (Err place) = None
 
 -- what is pinned: `NAME` or `NAME@VERSION`
-abbrev pub pinned_of : Word → Option (Word × Option Version)
-pinned_of = marked (λ b. b == 64) (λ text. version_read (version_meant text))
+unfoldable pub pinned_of : Word → Option (Word × Option Version)
+pinned_of text = marked (λ b. b == 64) (λ version. version_read (version_meant version)) text
 
 -- inside an extension, where the package's identifier is given
 abbrev pub inside : Word → Word × Option Uuid → Option Context

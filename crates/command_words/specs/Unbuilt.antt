@@ -1,5 +1,5 @@
 -- What this version does not have yet. A command or an option that is built is taken out of its list.
-use Rattle.std.specs.Prelude.{Bool, ◌==◌, ◌&&◌, ◌×◌, if◌then◌else◌, List, [], ◌∷◌, codes, find, Option, Some, None, option_map}
+use Rattle.std.specs.Prelude.{Bool, ◌==◌, ◌&&◌, if◌then◌else◌, List, [], ◌∷◌, codes, find, Option, Some, None, option_map}
 use Rattle.std.specs.List.{before_first, list_any}
 use Rattle.std.specs.Str.{bytes_eq}
 use Rattle.command_words.specs.Table.{Word}
@@ -16,12 +16,16 @@ later_options =
     ∷ (codes "resolve", codes "--proof")
     ∷ []
 
--- the word is that option of that command, alone or with a value behind `=`
-abbrev pub is_given : Word → Word → Word × Word → Bool
-is_given command word later = bytes_eq later.0 command && bytes_eq (before_first (λ b. b == 61) word) later.1
+-- the option of the list that is this command's and has this name
+abbrev pub is_of : Word → Word → Word × Word → Bool
+is_of command name later = bytes_eq later.0 command && bytes_eq later.1 name
 
+abbrev pub option_in : List (Word × Word) → Word → Word → Option Word
+option_in options command name = option_map (λ (later : Word × Word). later.1) (find (is_of command name) options)
+
+-- the word is such an option, alone or with a value behind `=`
 abbrev pub later_option : Word → Word → Option Word
-later_option command word = option_map (λ (later : Word × Word). later.1) (find (is_given command word) later_options)
+later_option command word = option_in later_options command (before_first (λ b. b == 61) word)
 
 abbrev pub or_next : Option Word → Option Word → Option Word
 or_next (Some option) next = Some option

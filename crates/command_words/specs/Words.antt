@@ -1,5 +1,5 @@
 -- What the words of a command ask for. (own rule)
-use Rattle.std.specs.Prelude.{ℕ, Bool, if◌then◌else◌, List, [], ◌∷◌, ◌×◌, codes, Option, Some, None, option_map}
+use Rattle.std.specs.Prelude.{ℕ, Bool, if◌then◌else◌, List, [], ◌∷◌, codes, Option, Some, None, option_map}
 use Rattle.std.specs.Option.{option_and_then}
 use Rattle.std.specs.Str.{bytes_eq}
 use Rattle.clap.specs.Walk.{Row}
@@ -73,11 +73,6 @@ name_in found = option_and_then name_of (text_in (codes "NAME") found)
 abbrev pub file_in : Path → List Row → Option (Option Path)
 file_in cwd found = file_of cwd (text_in (codes "proof") found)
 
--- something with a budget, where both can be read
-abbrev pub budgeted : {X : Type 0} → (X → ℕ → Asked) → Option X → List Row → Option Asked
-budgeted asked None found = None
-budgeted asked (Some what) found = option_map (asked what) (budget_in found)
-
 abbrev pub which_in : List Row → Option Asked
 which_in found =
     option_and_then (λ name. option_map (which name) (context_of (text_in (codes "from") found) (text_in (codes "ext") found))) (name_in found)
@@ -89,6 +84,17 @@ abbrev pub resolve_in : Path → List Row → Option Asked
 resolve_in cwd found =
     option_and_then (λ budget. option_map (resolve budget (has_flag (codes "classes") found)) (file_in cwd found)) (budget_in found)
 
+-- what a command that has a project's edit or a made world resolved asks for, within a budget
+abbrev pub edit_in : Path → Word → List Row → ℕ → Option Asked
+edit_in cwd command found budget =
+    if bytes_eq command (codes "add") then option_map (λ words. add words budget) (option_and_then (each package_of) (texts_in (codes "WORD") found))
+    else if bytes_eq command (codes "rm") then option_map (λ names. remove names budget) (option_and_then (each name_of) (texts_in (codes "NAME") found))
+    else if bytes_eq command (codes "pin") then option_map (λ pinned. pin pinned.0 pinned.1 budget) (option_and_then pinned_of (text_in (codes "WORD") found))
+    else if bytes_eq command (codes "free") then option_map (λ name. free name budget) (option_and_then name_of (text_in (codes "WORD") found))
+    else if bytes_eq command (codes "develop") then option_map (λ path. develop path budget) (option_and_then (joined cwd) (text_in (codes "PATH") found))
+    else if bytes_eq command (codes "make") then option_map (λ number. make number budget) (option_and_then number_of (text_in (codes "NUMBER") found))
+    else None
+
 -- what the matches of a command's words ask for; None where a rule on a word is broken
 abbrev pub meaning : Path → Word → List Row → Option Asked
 meaning cwd command found =
@@ -97,14 +103,8 @@ meaning cwd command found =
     else if bytes_eq command (codes "resolve") then resolve_in cwd found
     else if bytes_eq command (codes "check") then option_map check (file_in cwd found)
     else if bytes_eq command (codes "status") then Some (status (has_flag (codes "all") found) (has_flag (codes "extensions") found))
-    else if bytes_eq command (codes "add") then budgeted add (option_and_then (each package_of) (texts_in (codes "WORD") found)) found
-    else if bytes_eq command (codes "rm") then budgeted remove (option_and_then (each name_of) (texts_in (codes "NAME") found)) found
-    else if bytes_eq command (codes "pin") then budgeted (λ named. pin named.0 named.1) (option_and_then pinned_of (text_in (codes "WORD") found)) found
-    else if bytes_eq command (codes "free") then budgeted free (option_and_then name_of (text_in (codes "WORD") found)) found
-    else if bytes_eq command (codes "develop") then budgeted develop (option_and_then (joined cwd) (text_in (codes "PATH") found)) found
     else if bytes_eq command (codes "verify") then verify_in found
-    else if bytes_eq command (codes "make") then budgeted make (option_and_then number_of (text_in (codes "NUMBER") found)) found
-    else None
+    else option_and_then (edit_in cwd command found) (budget_in found)
 
 -- what the words behind a command word ask for; None where the command is unknown, `clap` refuses them or a rule is broken
 abbrev pub built_words : Path → Word → List Word → Option Asked

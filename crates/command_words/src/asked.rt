@@ -6,7 +6,7 @@ use pkg_world::{Listed, Name, Names, NormPath, Text};
 use uuid::Uuid;
 
 /// What words ask for. (own rule) A budget is a number of nodes, from 1 to 16,777,216.
-#[derive(Debug, Drop)]
+#[derive(Drop)]
 pub enum Asked {
     /// `which` of a name from a context.
     Which(Name, Context),

@@ -1,8 +1,14 @@
 //! What the words of a command ask for.
 #![tactic(auto)]
 
-mod budget;
-mod pieces;
+mod asked;
+mod found;
+mod meaning;
+mod numbers;
+mod parts;
+mod table;
+mod unbuilt;
 mod words;
 
-pub use words::{Asked, read_words};
+pub use asked::Asked;
+pub use words::read_words;

@@ -4,6 +4,7 @@ ghost use Rattle.std.specs.List.{list_all};
 ghost use Rattle.std.specs.Option.{option_copied};
 ghost use Rattle.jl_versions.specs.Meant.{version_meant};
 ghost use Rattle.pkg_world.specs.Path.{joined};
+ghost use Rattle.uuid.specs.Text.{parsed};
 ghost use Rattle.command_words.specs.Parts as spec;
 
 use env_maps::{Context, Id};
@@ -51,6 +52,7 @@ fn with_name<T: Drop>(
 }
 
 /// A package: `NAME` or `NAME=UUID`.
+#[tactic(auto, unfolding(crate::specs::Parts::package_of))]
 pub(crate) fn package_of(
     alloc: Global,
     text: &str,
@@ -58,15 +60,26 @@ pub(crate) fn package_of(
     ensures { IfOk result (λ found. found ≡ spec.package_of text.now) }
 {
     match text.split_once('=') {
-        Some((name, uuid)) => match identifier(uuid) {
-            Some(uuid) => with_name(alloc, name, Some(uuid)),
-            None => Ok(None),
-        },
+        Some((name, uuid)) => with_identifier(alloc, name, uuid),
         None => with_name(alloc, text, None),
     }
 }
 
+fn with_identifier(
+    alloc: Global,
+    name: &str,
+    text: &str,
+) -> Result<Option<(Name, Option<Uuid>)>, AllocError>
+    ensures { IfOk result (λ found. found ≡ spec.name_and (parsed text.now) name.now) }
+{
+    match identifier(text) {
+        Some(uuid) => with_name(alloc, name, Some(uuid)),
+        None => Ok(None),
+    }
+}
+
 /// What is pinned: `NAME` or `NAME@VERSION`.
+#[tactic(auto, unfolding(crate::specs::Parts::pinned_of))]
 pub(crate) fn pinned_of(
     alloc: Global,
     text: &str,
@@ -74,11 +87,21 @@ pub(crate) fn pinned_of(
     ensures { IfOk result (λ found. found ≡ spec.pinned_of text.now) }
 {
     match text.split_once('@') {
-        Some((name, version)) => match version_of(alloc, version)? {
-            Some(version) => with_name(alloc, name, Some(version)),
-            None => Ok(None),
-        },
+        Some((name, version)) => with_version(alloc, name, version),
         None => with_name(alloc, text, None),
+    }
+}
+
+fn with_version(
+    alloc: Global,
+    name: &str,
+    text: &str,
+) -> Result<Option<(Name, Option<Version>)>, AllocError>
+    ensures { IfOk result (λ found. found ≡ spec.name_and (spec.version_read (version_meant text.now)) name.now) }
+{
+    match version_of(alloc, text)? {
+        Some(version) => with_name(alloc, name, Some(version)),
+        None => Ok(None),
     }
 }
 

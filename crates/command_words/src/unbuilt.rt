@@ -1,5 +1,5 @@
 //! What this version does not have yet. A command or an option that is built is taken out of its list.
-ghost use Rattle.std.specs.Prelude.{◌≡◌};
+ghost use Rattle.std.specs.Prelude.{◌≡◌, ◌==◌, map};
 ghost use Rattle.std.specs.List.{before_first, list_any};
 ghost use Rattle.std.specs.Option.{option_copied};
 ghost use Rattle.std.specs.Str.{bytes_eq};
@@ -29,7 +29,13 @@ pub(crate) fn first_unbuilt<'a>(command: &'a str, words: &[String]) -> Option<&'
 fn is_later(command: &str) -> bool
     ensures { result ≡ list_any (λ later. bytes_eq later command.now) spec.later_commands }
 {
-    LATER_COMMANDS.iter().any(|later| *later == command)
+    is_among(&LATER_COMMANDS, command)
+}
+
+fn is_among(commands: &[&str], command: &str) -> bool
+    ensures { result ≡ list_any (λ later. bytes_eq later.now command.now) commands.now }
+{
+    commands.iter().any(|later| *later == command)
 }
 
 fn first_option(command: &str, words: &[String]) -> Option<&'static str>
@@ -46,10 +52,19 @@ fn first_option(command: &str, words: &[String]) -> Option<&'static str>
 fn later_option(command: &str, word: &str) -> Option<&'static str>
     ensures { option_copied result ≡ spec.later_option command.now word.now }
 {
-    let name = option_name(word);
-    for (later, option) in LATER_OPTIONS {
-        if later == command && name == option {
-            return Some(option);
+    option_in(&LATER_OPTIONS, command, option_name(word))
+}
+
+fn option_in(
+    options: &[(&'static str, &'static str)],
+    command: &str,
+    name: &str,
+) -> Option<&'static str>
+    ensures { option_copied result ≡ spec.option_in (map (λ later. (later.0.now, later.1.now)) options.now) command.now name.now }
+{
+    for (later, option) in options {
+        if *later == command && *option == name {
+            return Some(*option);
         }
     }
     None
