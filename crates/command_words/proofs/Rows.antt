@@ -1,5 +1,5 @@
 -- What the getters of `clap` give, by the rows of its matches.
-use Rattle.std.proofs.Common.{◌≡◌, ◌∙◌, List, ℕ, Option, map, option_map}
+use Rattle.std.proofs.Common.{◌≡◌, option_map}
 use Rattle.clap.proofs.WalkLemmas.{first_value-rows, raw_values-rows}
 use Rattle.clap.specs.Walk.{Text, all_of, first_of, rows_of}
 use Rattle.clap.specs.Matches.{first_value, matched_of, raw_values}

@@ -2,11 +2,10 @@
 use Rattle.std.proofs.Common.{◌≡◌, ◌∙◌, ◌<◌, ◌+◌, ℕ, ap, refl, true, List, [], ◌∷◌, ◌++◌, length, map, take, Option, None, option_map, inl, inr}
 use Rattle.std.specs.List.{slice_index_or}
 use Rattle.std.proofs.lemmas.List.{map-append, map_more}
-use Rattle.clap.specs.Words.{App, HasKind, IsAmong, Kinds, fault_of, is_simple_and_free, kind_of, with_rule}
+use Rattle.clap.specs.Words.{App, HasKind, Kinds, fault_of, is_simple_and_free, kind_of, with_rule}
 use Rattle.clap.specs.Simple.{matches_of, new_app, on_top}
 use Rattle.clap.specs.Walk.{Row, Rule}
 use Rattle.clap.specs.declared.error.Error.{Error}
-use Rattle.clap.specs.declared.error.kind.ErrorKind.{ErrorKind}
 use Rattle.clap.specs.declared.error.kind.ErrorKind.TheVariants.{OutOfMemory}
 use Rattle.clap.specs.declared.parser.matches.ArgMatches.{ArgMatches}
 use Rattle.command_words.specs.Seen.{entry_of, rows}

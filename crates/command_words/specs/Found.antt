@@ -1,5 +1,5 @@
 -- What stands in the matches of `clap`, by the names of a table's entries.
-use Rattle.std.specs.Prelude.{ℕ, Bool, false, List, codes, Option, Some, None}
+use Rattle.std.specs.Prelude.{Bool, false, List, codes, Option, Some, None}
 use Rattle.std.specs.Str.{bytes_eq}
 use Rattle.clap.specs.Walk.{Row, all_of, first_of}
 use Rattle.command_words.specs.Table.{Word}

@@ -107,7 +107,7 @@ meaning cwd command found =
     else option_and_then (edit_in cwd command found) (budget_in found)
 
 -- what the words behind a command word ask for; None where the command is unknown, `clap` refuses them or a rule is broken
-abbrev pub built_words : Path → Word → List Word → Option Asked
+unfoldable pub built_words : Path → Word → List Word → Option Asked
 built_words cwd command rest =
     option_and_then (λ entries. option_and_then (meaning cwd command) (matched command entries rest)) (table command)
 

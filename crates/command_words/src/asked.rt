@@ -13,11 +13,16 @@ pub enum Asked {
     /// `offers` of a name.
     Offers(Name),
     /// `status`, of every stanza or of the dependencies alone, and with extensions or without.
-    Status { all: bool, extensions: bool },
+    Status {
+        all: bool,
+        extensions: bool,
+    },
     /// `verify` of a name, with a list of paths where one is given.
     Verify(Name, Option<Text>),
     /// `check`, of a certificate where one is given.
-    Check { proof: Option<NormPath> },
+    Check {
+        proof: Option<NormPath>,
+    },
     /// `resolve` within a budget; whether it tells classes, and where a certificate goes.
     Resolve {
         budget: u32,
@@ -30,7 +35,10 @@ pub enum Asked {
         budget: u32,
     },
     /// `rm` of names.
-    Remove { names: Names, budget: u32 },
+    Remove {
+        names: Names,
+        budget: u32,
+    },
     /// `pin` of a name, to a version where one is given.
     Pin {
         name: Name,
@@ -38,11 +46,20 @@ pub enum Asked {
         budget: u32,
     },
     /// `free` of a name.
-    Free { name: Name, budget: u32 },
+    Free {
+        name: Name,
+        budget: u32,
+    },
     /// `develop` of a folder.
-    Develop { path: NormPath, budget: u32 },
+    Develop {
+        path: NormPath,
+        budget: u32,
+    },
     /// `make` of a made world.
-    Make { number: u64, budget: u32 },
+    Make {
+        number: u64,
+        budget: u32,
+    },
     /// The words break the rules: the command word, or `-` where there is none.
     BadWords(Text),
     /// A command or an option that this version does not have yet.

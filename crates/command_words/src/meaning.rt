@@ -163,11 +163,7 @@ fn own_text(alloc: Global, text: Option<&str>) -> Result<Option<Text>, AllocErro
     }
 }
 
-fn add_in(
-    alloc: Global,
-    found: &ArgMatches<'_>,
-    budget: u32,
-) -> Result<Option<Asked>, AllocError>
+fn add_in(alloc: Global, found: &ArgMatches<'_>, budget: u32) -> Result<Option<Asked>, AllocError>
     ensures { IfOk result (λ asked. option_map asked_of asked
         ≡ option_map (λ words. spec.add words budget) (option_and_then (parts.each parts.package_of) (found_spec.texts_in (codes "WORD") (rows found.now)))) }
 {
@@ -197,11 +193,7 @@ fn remove_in(
     }
 }
 
-fn pin_in(
-    alloc: Global,
-    found: &ArgMatches<'_>,
-    budget: u32,
-) -> Result<Option<Asked>, AllocError>
+fn pin_in(alloc: Global, found: &ArgMatches<'_>, budget: u32) -> Result<Option<Asked>, AllocError>
     ensures { IfOk result (λ asked. option_map asked_of asked
         ≡ option_map (λ pinned. spec.pin pinned.0 pinned.1 budget) (option_and_then parts.pinned_of (found_spec.text_in (codes "WORD") (rows found.now)))) }
 {
@@ -218,11 +210,7 @@ fn pin_in(
     }
 }
 
-fn free_in(
-    alloc: Global,
-    found: &ArgMatches<'_>,
-    budget: u32,
-) -> Result<Option<Asked>, AllocError>
+fn free_in(alloc: Global, found: &ArgMatches<'_>, budget: u32) -> Result<Option<Asked>, AllocError>
     ensures { IfOk result (λ asked. option_map asked_of asked
         ≡ option_map (λ name. spec.free name budget) (option_and_then parts.name_of (found_spec.text_in (codes "WORD") (rows found.now)))) }
 {
@@ -269,11 +257,7 @@ fn name_in(alloc: Global, found: &ArgMatches<'_>) -> Result<Option<Name>, AllocE
     name_at(alloc, found, "NAME")
 }
 
-fn name_at(
-    alloc: Global,
-    found: &ArgMatches<'_>,
-    place: &str,
-) -> Result<Option<Name>, AllocError>
+fn name_at(alloc: Global, found: &ArgMatches<'_>, place: &str) -> Result<Option<Name>, AllocError>
     ensures { IfOk result (λ name. name ≡ option_and_then parts.name_of (found_spec.text_in place.now (rows found.now))) }
 {
     match text_in(found, place) {

@@ -52,11 +52,7 @@ fn refused<'a>(error: &Error) -> Result<Option<ArgMatches<'a>>, AllocError>
 
 /// The command that the table makes: its arguments and nothing else, no program's name and no help flag.
 #[tactic(auto, using(crate::proofs::Rules::rules_at))]
-fn defined<'a>(
-    alloc: Global,
-    command: &'a str,
-    table: &[Entry],
-) -> Result<Command<'a>, AllocError>
+fn defined<'a>(alloc: Global, command: &'a str, table: &[Entry]) -> Result<Command<'a>, AllocError>
     ensures { IfOk result (λ made. app_of made ≡ spec.definition command.now (map entry_of table.now)) }
 {
     let mut made = bare(alloc, command);
@@ -74,11 +70,7 @@ fn bare<'a>(alloc: Global, command: &'a str) -> Command<'a>
         .disable_help_flag(true)
 }
 
-fn with_entry<'a>(
-    alloc: Global,
-    made: Command<'a>,
-    entry: Entry,
-) -> Result<Command<'a>, AllocError>
+fn with_entry<'a>(alloc: Global, made: Command<'a>, entry: Entry) -> Result<Command<'a>, AllocError>
     ensures { IfOk result (λ next. app_of next ≡ with_rule (app_of made.entry) (spec.rule (entry_of entry))) }
 {
     made.arg(argument(alloc, entry))

@@ -37,11 +37,7 @@ use std::alloc::{AllocError, Global};
 /// BadWords comes exactly where there is no command word, it is unknown, `clap` refuses the rest by the table, a rule above is
 /// broken or a path rises above the root. NotBuilt, which goes before, comes where the command, or an option of it among the
 /// words, is one that this version does not have yet. The one error is want of memory.
-pub fn read_words(
-    alloc: Global,
-    cwd: &NormPath,
-    words: &[String],
-) -> Result<Asked, AllocError>
+pub fn read_words(alloc: Global, cwd: &NormPath, words: &[String]) -> Result<Asked, AllocError>
     ensures { IfOk result (λ asked. asked_of asked ≡ spec.asked cwd.now (texts words.now)) }
 {
     match words.split_first() {
@@ -79,6 +75,7 @@ fn words_or_refused(
 }
 
 /// What the words behind a command word ask for; None where the command is unknown, `clap` refuses them or a rule is broken.
+#[tactic(auto, unfolding(crate::specs::Words::built_words))]
 fn built_words(
     alloc: Global,
     cwd: &NormPath,
@@ -102,13 +99,21 @@ fn table(command: &str) -> Option<&'static [Entry]>
     ensures simple { IfSome result (λ entries. is_simple_and_free (definition command.now (map entry_of entries.now)) ≡ true) }
 {
     if command == "which" {
-        return Some(&[Entry::One("NAME"), Entry::Valued("from"), Entry::Valued("ext")]);
+        return Some(&[
+            Entry::One("NAME"),
+            Entry::Valued("from"),
+            Entry::Valued("ext"),
+        ]);
     }
     if command == "offers" {
         return Some(&[Entry::One("NAME")]);
     }
     if command == "resolve" {
-        return Some(&[Entry::Valued("budget"), Entry::Flag("classes"), Entry::Valued("proof")]);
+        return Some(&[
+            Entry::Valued("budget"),
+            Entry::Flag("classes"),
+            Entry::Valued("proof"),
+        ]);
     }
     if command == "check" {
         return Some(&[Entry::Valued("proof")]);
