@@ -6,10 +6,10 @@ ghost use Rattle.std.specs.Str.{bytes_eq};
 ghost use Rattle.command_words.specs.Unbuilt as spec;
 ghost use Rattle.command_words.specs.Seen.{texts};
 
-const LATER_COMMANDS: [&str; 6] = ["add", "rm", "pin", "free", "develop", "make"];
+const LATER_COMMANDS: &[&str] = &["add", "rm", "pin", "free", "develop", "make"];
 
 /// Options of commands that are there, each with its command.
-const LATER_OPTIONS: [(&str, &str); 4] = [
+const LATER_OPTIONS: &[(&str, &str)] = &[
     ("which", "--ext"),
     ("status", "--extensions"),
     ("check", "--proof"),
@@ -29,7 +29,7 @@ pub(crate) fn first_unbuilt<'a>(command: &'a str, words: &[String]) -> Option<&'
 fn is_later(command: &str) -> bool
     ensures { result ≡ list_any (λ later. bytes_eq later command.now) spec.later_commands }
 {
-    is_among(&LATER_COMMANDS, command)
+    is_among(LATER_COMMANDS, command)
 }
 
 fn is_among(commands: &[&str], command: &str) -> bool
@@ -52,7 +52,7 @@ fn first_option(command: &str, words: &[String]) -> Option<&'static str>
 fn later_option(command: &str, word: &str) -> Option<&'static str>
     ensures { option_copied result ≡ spec.later_option command.now word.now }
 {
-    option_in(&LATER_OPTIONS, command, option_name(word))
+    option_in(LATER_OPTIONS, command, option_name(word))
 }
 
 fn option_in(
