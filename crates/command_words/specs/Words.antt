@@ -107,8 +107,8 @@ meaning cwd command found =
     else option_and_then (edit_in cwd command found) (budget_in found)
 
 -- what the words behind a command word ask for; None where the command is unknown, `clap` refuses them or a rule is broken
-unfoldable pub built_words : Path → Word → List Word → Option Asked
-built_words cwd command rest =
+unfoldable pub words_meant : Path → Word → List Word → Option Asked
+words_meant cwd command rest =
     option_and_then (λ entries. option_and_then (meaning cwd command) (matched command entries rest)) (table command)
 
 abbrev pub or_refused : Word → Option Asked → Asked
@@ -122,4 +122,4 @@ or_unbuilt None asked = asked
 -- what words ask for at a folder
 abbrev pub asked : Path → List Word → Asked
 asked cwd [] = refused_words (codes "-")
-asked cwd (command ∷ rest) = or_unbuilt (first_unbuilt command rest) (or_refused command (built_words cwd command rest))
+asked cwd (command ∷ rest) = or_unbuilt (first_unbuilt command rest) (or_refused command (words_meant cwd command rest))

@@ -66,23 +66,23 @@ fn words_or_refused(
     command: &str,
     rest: &[String],
 ) -> Result<Asked, AllocError>
-    ensures { IfOk result (λ asked. asked_of asked ≡ spec.or_refused command.now (spec.built_words cwd.now command.now (texts rest.now))) }
+    ensures { IfOk result (λ asked. asked_of asked ≡ spec.or_refused command.now (spec.words_meant cwd.now command.now (texts rest.now))) }
 {
-    match built_words(alloc, cwd, command, rest)? {
+    match words_meant(alloc, cwd, command, rest)? {
         Some(asked) => Ok(asked),
         None => Ok(Asked::BadWords(Text::of(alloc, command)?)),
     }
 }
 
 /// What the words behind a command word ask for; None where the command is unknown, `clap` refuses them or a rule is broken.
-#[tactic(auto, unfolding(crate::specs::Words::built_words))]
-fn built_words(
+#[tactic(auto, unfolding(crate::specs::Words::words_meant))]
+fn words_meant(
     alloc: Global,
     cwd: &NormPath,
     command: &str,
     rest: &[String],
 ) -> Result<Option<Asked>, AllocError>
-    ensures { IfOk result (λ asked. option_map asked_of asked ≡ spec.built_words cwd.now command.now (texts rest.now)) }
+    ensures { IfOk result (λ asked. option_map asked_of asked ≡ spec.words_meant cwd.now command.now (texts rest.now)) }
 {
     let Some(entries) = table(command) else {
         return Ok(None);
