@@ -1,1 +1,3 @@
 mod Digits
+mod Rows
+mod Rules

@@ -1,4 +1,7 @@
-pub mod Pieces
-pub mod Budgets
+pub mod Table
+pub mod Found
+pub mod Numbers
+pub mod Parts
+pub mod Unbuilt
 pub mod Words
 pub mod Seen

@@ -1,172 +1,125 @@
--- What the words of a command mean. (own rule)
-use Rattle.std.specs.Prelude.{ℕ, Bool, true, false, not, nat_lt, ◌==◌, ◌&&◌, ◌||◌, if◌then◌else◌, List, [], ◌∷◌, ◌++◌, length, codes, Option, Some, None, option_map}
-use Rattle.std.specs.List.{list_all, list_any, starts_with, position_or_len, before_first, after_first}
-use Rattle.std.specs.Str.{bytes_eq}
+-- What the words of a command ask for. (own rule)
+use Rattle.std.specs.Prelude.{ℕ, Bool, if◌then◌else◌, List, [], ◌∷◌, codes, Option, Some, None, option_map}
 use Rattle.std.specs.Option.{option_and_then}
-use Rattle.command_words.specs.declared.pieces.Piece.{Piece}
-use Rattle.command_words.specs.declared.pieces.Piece.TheVariants.{Operand, Flag, Value}
-use Rattle.uuid.specs.Text.{parsed}
+use Rattle.std.specs.Str.{bytes_eq}
+use Rattle.clap.specs.Walk.{Row}
+use Rattle.uuid.specs.declared.Uuid.{Uuid}
+use Rattle.jl_versions.specs.declared.version.Version.{Version}
+use Rattle.pkg_world.specs.Path.{Path, joined}
 use Rattle.env_maps.specs.declared.id.Context.{Context}
-use Rattle.env_maps.specs.declared.id.Context.TheVariants.{Top, Package}
-use Rattle.command_words.specs.declared.words.NameAndValue.{NameAndValue}
-use Rattle.command_words.specs.Budgets.{usual_budget, budget_of}
-use Rattle.command_words.specs.Pieces.{Word, pieces, is_equals}
+use Rattle.command_words.specs.Table.{Word, Entry, one, several, option, flag, matched}
+use Rattle.command_words.specs.Found.{text_in, texts_in, has_flag}
+use Rattle.command_words.specs.Numbers.{budget_of, number_of, usual_budget}
+use Rattle.command_words.specs.Parts.{name_of, package_of, pinned_of, context_of, file_of, each}
+use Rattle.command_words.specs.Unbuilt.{first_unbuilt}
 
 pub data Asked : Type 0 where
   -- `which` of a name from a context
   which : Word → Context → Asked
   -- `offers` of a name
   offers : Word → Asked
-  -- `status`, of every stanza or of the dependencies alone
-  status : Bool → Asked
+  -- `status`, of every stanza or of the dependencies alone, and with extensions or without
+  status : (all extensions : Bool) → Asked
   -- `verify` of a name, with a list of paths where one is given
   verify : Word → Option Word → Asked
-  check : Asked
-  -- `resolve` within a budget of nodes, and whether it tells classes
-  resolve : ℕ → Bool → Asked
+  -- `check`, of a certificate where one is given
+  check : (proof : Option Path) → Asked
+  -- `resolve` within a budget of nodes; whether it tells classes, and where a certificate goes
+  resolve : (budget : ℕ) → (classes : Bool) → (proof : Option Path) → Asked
+  -- `add` of names, with identifiers where they are given
+  add : List (Word × Option Uuid) → (budget : ℕ) → Asked
+  -- `rm` of names
+  remove : List Word → (budget : ℕ) → Asked
+  -- `pin` of a name, to a version where one is given
+  pin : Word → Option Version → (budget : ℕ) → Asked
+  free : Word → (budget : ℕ) → Asked
+  -- `develop` of a folder
+  develop : Path → (budget : ℕ) → Asked
+  -- `make` of a made world
+  make : (number budget : ℕ) → Asked
   -- words that break the rules, with the command word that is told
   refused_words : Word → Asked
   -- a command or an option that this version does not have yet
   not_built : Word → Asked
 
--- a name: not empty, and without slash, equals sign, at sign or space
-abbrev pub is_name : Word → Bool
-is_name word = not (length word == 0) && list_all (λ b. not (b == 47 || (b == 61 || (b == 64 || b == 32)))) word
-
-abbrev pub name_of : Piece → Option Word
-name_of (Operand word) = if is_name word then Some word else None
-name_of Flag = None
-name_of (Value text) = None
-
-abbrev pub value_of : Piece → Option Word
-value_of (Operand word) = None
-value_of Flag = None
-value_of (Value text) = Some text
-
-abbrev pub flag_of : Piece → Option Bool
-flag_of (Operand word) = None
-flag_of Flag = Some true
-flag_of (Value text) = None
-
--- exactly one name
-abbrev pub one_name : List Piece → Option Word
-one_name [] = None
-one_name (piece ∷ []) = name_of piece
-one_name (piece ∷ next ∷ more) = None
-
--- the flag, at most once
-abbrev pub one_flag : List Piece → Option Bool
-one_flag [] = Some false
-one_flag (piece ∷ []) = flag_of piece
-one_flag (piece ∷ next ∷ more) = None
-
--- nothing
-abbrev pub no_pieces : List Piece → Option Asked
-no_pieces [] = Some check
-no_pieces (piece ∷ more) = None
-
-abbrev pub resolve_by : Bool → Word → Option Asked
-resolve_by classes text = option_map (λ budget. resolve budget classes) (budget_of text)
-
-abbrev pub resolve_one : Piece → Option Asked
-resolve_one (Operand word) = None
-resolve_one Flag = Some (resolve usual_budget true)
-resolve_one (Value text) = resolve_by false text
-
-abbrev pub resolve_two : Piece → Piece → Option Asked
-resolve_two (Operand word) second = None
-resolve_two Flag second = option_and_then (resolve_by true) (value_of second)
-resolve_two (Value text) second = option_and_then (λ classes. resolve_by classes text) (flag_of second)
-
--- the budget and the flag, each at most once, in either order
-abbrev pub resolve_of : List Piece → Option Asked
-resolve_of [] = Some (resolve usual_budget false)
-resolve_of (piece ∷ []) = resolve_one piece
-resolve_of (first ∷ second ∷ []) = resolve_two first second
-resolve_of (first ∷ second ∷ third ∷ more) = None
-
--- a name with the value of the command's option
-abbrev pub name_with : Piece → Piece → Option NameAndValue
-name_with named valued = option_and_then (λ name. option_map (λ value. record { name = name; value = Some value }) (value_of valued)) (name_of named)
-
-abbrev pub or_other : Option NameAndValue → Option NameAndValue → Option NameAndValue
-or_other (Some named) other = Some named
-or_other None other = other
-
--- exactly one name, and before or behind it the value, at most once
-abbrev pub name_and_value : List Piece → Option NameAndValue
-name_and_value [] = None
-name_and_value (piece ∷ []) = option_map (λ name. record { name = name; value = None }) (name_of piece)
-name_and_value (first ∷ second ∷ []) = or_other (name_with first second) (name_with second first)
-name_and_value (first ∷ second ∷ third ∷ more) = None
-
-abbrev pub package_of : Word → Word → Option Context
-package_of name text = if is_name name then option_map (λ uuid. Package (record { uuid = Some uuid; name = name })) (parsed text) else None
-
--- a context: `NAME`, a package without identifier, or `NAME=UUID`
-abbrev pub context_of : Word → Option Context
-context_of text =
-    if nat_lt (position_or_len is_equals text) (length text) then package_of (before_first is_equals text) (after_first is_equals text)
-    else if is_name text then Some (Package (record { uuid = None; name = text }))
+-- the words that each command takes behind its own
+abbrev pub table : Word → Option (List Entry)
+table command =
+    if bytes_eq command (codes "which") then Some (one (codes "NAME") ∷ option (codes "from") ∷ option (codes "ext") ∷ [])
+    else if bytes_eq command (codes "offers") then Some (one (codes "NAME") ∷ [])
+    else if bytes_eq command (codes "resolve") then Some (option (codes "budget") ∷ flag (codes "classes") ∷ option (codes "proof") ∷ [])
+    else if bytes_eq command (codes "check") then Some (option (codes "proof") ∷ [])
+    else if bytes_eq command (codes "status") then Some (flag (codes "all") ∷ flag (codes "extensions") ∷ [])
+    else if bytes_eq command (codes "add") then Some (several (codes "WORD") ∷ option (codes "budget") ∷ [])
+    else if bytes_eq command (codes "rm") then Some (several (codes "NAME") ∷ option (codes "budget") ∷ [])
+    else if bytes_eq command (codes "pin") then Some (one (codes "WORD") ∷ option (codes "budget") ∷ [])
+    else if bytes_eq command (codes "free") then Some (one (codes "WORD") ∷ option (codes "budget") ∷ [])
+    else if bytes_eq command (codes "develop") then Some (one (codes "PATH") ∷ option (codes "budget") ∷ [])
+    else if bytes_eq command (codes "verify") then Some (one (codes "NAME") ∷ option (codes "exec") ∷ [])
+    else if bytes_eq command (codes "make") then Some (one (codes "NUMBER") ∷ option (codes "budget") ∷ [])
     else None
 
--- the context that is given, else the top level
-abbrev pub context_given : Option Word → Option Context
-context_given None = Some Top
-context_given (Some text) = context_of text
+-- the budget that is given, else the usual one
+abbrev pub budget_given : Option Word → Option ℕ
+budget_given None = Some usual_budget
+budget_given (Some text) = budget_of text
 
-abbrev pub which_of : NameAndValue → Option Asked
-which_of named = option_map (which named.name) (context_given named.value)
+abbrev pub budget_in : List Row → Option ℕ
+budget_in found = budget_given (text_in (codes "budget") found)
 
-abbrev pub verify_of : NameAndValue → Asked
-verify_of named = verify named.name named.value
+abbrev pub name_in : List Row → Option Word
+name_in found = option_and_then name_of (text_in (codes "NAME") found)
 
--- what a built command is asked; None where its words break the rules, or the command is no built one
-abbrev pub built_words : Word → List Word → Option Asked
-built_words command rest =
-    if bytes_eq command (codes "which") then option_and_then which_of (option_and_then name_and_value (pieces (Some (codes "--from")) None false rest))
-    else if bytes_eq command (codes "offers") then option_map offers (option_and_then one_name (pieces None None false rest))
-    else if bytes_eq command (codes "status") then option_map status (option_and_then one_flag (pieces None (Some (codes "--all")) false rest))
-    else if bytes_eq command (codes "verify") then option_map verify_of (option_and_then name_and_value (pieces (Some (codes "--exec")) None false rest))
-    else if bytes_eq command (codes "check") then option_and_then no_pieces (pieces None None false rest)
-    else if bytes_eq command (codes "resolve") then option_and_then resolve_of (pieces (Some (codes "--budget")) (Some (codes "--classes")) false rest)
+abbrev pub file_in : Path → List Row → Option (Option Path)
+file_in cwd found = file_of cwd (text_in (codes "proof") found)
+
+abbrev pub which_in : List Row → Option Asked
+which_in found =
+    option_and_then (λ name. option_map (which name) (context_of (text_in (codes "from") found) (text_in (codes "ext") found))) (name_in found)
+
+abbrev pub verify_in : List Row → Option Asked
+verify_in found = option_map (λ name. verify name (text_in (codes "exec") found)) (name_in found)
+
+abbrev pub resolve_in : Path → List Row → Option Asked
+resolve_in cwd found =
+    option_and_then (λ budget. option_map (resolve budget (has_flag (codes "classes") found)) (file_in cwd found)) (budget_in found)
+
+-- what a command that has a project's edit or a made world resolved asks for, within a budget
+abbrev pub edit_in : Path → Word → List Row → ℕ → Option Asked
+edit_in cwd command found budget =
+    if bytes_eq command (codes "add") then option_map (λ words. add words budget) (option_and_then (each package_of) (texts_in (codes "WORD") found))
+    else if bytes_eq command (codes "rm") then option_map (λ names. remove names budget) (option_and_then (each name_of) (texts_in (codes "NAME") found))
+    else if bytes_eq command (codes "pin") then option_map (λ pinned. pin pinned.0 pinned.1 budget) (option_and_then pinned_of (text_in (codes "WORD") found))
+    else if bytes_eq command (codes "free") then option_map (λ name. free name budget) (option_and_then name_of (text_in (codes "WORD") found))
+    else if bytes_eq command (codes "develop") then option_map (λ path. develop path budget) (option_and_then (joined cwd) (text_in (codes "PATH") found))
+    else if bytes_eq command (codes "make") then option_map (λ number. make number budget) (option_and_then number_of (text_in (codes "NUMBER") found))
     else None
 
--- the option itself, or it with a value behind `=`
-abbrev pub is_option : Word → Word → Bool
-is_option option word = bytes_eq word option || starts_with (λ a b. a == b) word (option ++ codes "=")
+-- what the matches of a command's words ask for; None where a rule on a word is broken
+abbrev pub meaning : Path → Word → List Row → Option Asked
+meaning cwd command found =
+    if bytes_eq command (codes "which") then which_in found
+    else if bytes_eq command (codes "offers") then option_map offers (name_in found)
+    else if bytes_eq command (codes "resolve") then resolve_in cwd found
+    else if bytes_eq command (codes "check") then option_map check (file_in cwd found)
+    else if bytes_eq command (codes "status") then Some (status (has_flag (codes "all") found) (has_flag (codes "extensions") found))
+    else if bytes_eq command (codes "verify") then verify_in found
+    else option_and_then (edit_in cwd command found) (budget_in found)
 
--- an option of a built command that this version does not have yet
-abbrev pub unbuilt_option : Word → Word → Option Word
-unbuilt_option command word =
-    if bytes_eq command (codes "which") && is_option (codes "--ext") word then Some (codes "--ext")
-    else if bytes_eq command (codes "status") && is_option (codes "--extensions") word then Some (codes "--extensions")
-    else if bytes_eq command (codes "check") && is_option (codes "--proof") word then Some (codes "--proof")
-    else if bytes_eq command (codes "resolve") && is_option (codes "--proof") word then Some (codes "--proof")
-    else None
-
-abbrev pub or_next : Option Word → Option Word → Option Word
-or_next (Some option) next = Some option
-or_next None next = next
-
-abbrev pub first_unbuilt : Word → List Word → Option Word
-first_unbuilt command [] = None
-first_unbuilt command (word ∷ more) = or_next (unbuilt_option command word) (first_unbuilt command more)
-
--- the commands that later versions have
-abbrev pub later_commands : List Word
-later_commands = codes "add" ∷ codes "rm" ∷ codes "pin" ∷ codes "free" ∷ codes "develop" ∷ codes "make" ∷ []
+-- what the words behind a command word ask for; None where the command is unknown, `clap` refuses them or a rule is broken
+unfoldable pub words_meant : Path → Word → List Word → Option Asked
+words_meant cwd command rest =
+    option_and_then (λ entries. option_and_then (meaning cwd command) (matched command entries rest)) (table command)
 
 abbrev pub or_refused : Word → Option Asked → Asked
 or_refused command (Some asked) = asked
 or_refused command None = refused_words command
 
 abbrev pub or_unbuilt : Option Word → Asked → Asked
-or_unbuilt (Some option) asked = not_built option
+or_unbuilt (Some word) asked = not_built word
 or_unbuilt None asked = asked
 
-abbrev pub asked : List Word → Asked
-asked [] = refused_words (codes "-")
-asked (command ∷ rest) =
-    if list_any (λ later. bytes_eq command later) later_commands then not_built command
-    else or_unbuilt (first_unbuilt command rest) (or_refused command (built_words command rest))
+-- what words ask for at a folder
+abbrev pub asked : Path → List Word → Asked
+asked cwd [] = refused_words (codes "-")
+asked cwd (command ∷ rest) = or_unbuilt (first_unbuilt command rest) (or_refused command (words_meant cwd command rest))
