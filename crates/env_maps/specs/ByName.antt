@@ -1,7 +1,7 @@
 -- What was read for some names, and is found again by its name.
-use Rattle.std.specs.Prelude.{ℕ, Bool, false, ◌||◌, if◌then◌else◌, List, [], ◌∷◌, Option, Some, None, Ok, Err}
+use Rattle.std.specs.Prelude.{ℕ, List, [], ◌∷◌, Option, None, Ok, Err}
 use Rattle.std.specs.Option.{option_and_then}
-use Rattle.std.specs.Str.{bytes_eq}
+pub use Rattle.extension_rules.specs.ByName.{found_at, is_among}
 use Rattle.pkg_world.specs.Each.{then_ok, read_each}
 use Rattle.project_places.specs.Files.{Read}
 
@@ -13,12 +13,7 @@ with_name read name = then_ok (read name) (λ value. Ok ((name, value) ∷ []))
 abbrev pub by_name : {T : Type 0} → (List ℕ → Read T) → List (List ℕ) → Read (List (List ℕ × T))
 by_name read names = read_each (with_name read) names
 
--- what stands first under a name
-abbrev pub found_at : {T : Type 0} → List ℕ → List (List ℕ × T) → Option T
-found_at name [] = None
-found_at name ((key, value) ∷ more) = if bytes_eq key name then Some value else found_at name more
-
--- the same of a reading that may find nothing
+-- what stands first under a name, of a reading that may find nothing
 abbrev pub found_in : {T : Type 0} → List (List ℕ × Option T) → List ℕ → Option T
 found_in found name = option_and_then (λ value. value) (found_at name found)
 
@@ -26,7 +21,3 @@ found_in found name = option_and_then (λ value. value) (found_at name found)
 abbrev pub given : {T : Type 0} → Read (Option T) → Option T
 given (Ok value) = value
 given (Err refused) = None
-
-abbrev pub is_among : List ℕ → List (List ℕ) → Bool
-is_among name [] = false
-is_among name (key ∷ more) = bytes_eq key name || is_among name more

@@ -1,10 +1,6 @@
 -- Package folders (Julia manual, Code Loading; the form of a bare file, and the identifiers that are made up, are ours).
-use Rattle.std.specs.Prelude.{ℕ, Bool, if◌then◌else◌, List, [], ◌∷◌, ◌++◌, take, codes, Option, Some, None, is_none, option_map, Ok}
+use Rattle.std.specs.Prelude.{ℕ, Bool, if◌then◌else◌, List, [], ◌∷◌, ◌++◌, codes, Option, Some, None, is_none, option_map, Ok}
 use Rattle.std.specs.Option.{option_and_then}
-use Rattle.sha1.specs.Sha1.{sha1}
-use Rattle.uuid.specs.Parts.{with_version, with_variant}
-use Rattle.uuid.specs.declared.Version.TheVariants.{Sha1}
-use Rattle.uuid.specs.declared.Variant.TheVariants.{RFC4122}
 use Rattle.pkg_world.specs.Each.{then_ok}
 use Rattle.pkg_world.specs.Path.{Path, joined, path_text}
 use Rattle.pkg_world.specs.Tree.{Files, holds, is_file}
@@ -14,7 +10,10 @@ use Rattle.env_maps.specs.declared.spot.Spot.{Spot}
 use Rattle.project_places.specs.Active.{file_in, or_next}
 use Rattle.env_maps.specs.ByName.{by_name, given}
 use Rattle.project_places.specs.Files.{Read, at_file, project_in}
-use Rattle.env_maps.specs.Maps.{same_uuid, source_text}
+use Rattle.extension_rules.specs.NamedIds.{named_id}
+use Rattle.entry_files.specs.Entries.{source_text}
+use Rattle.env_maps.specs.Contexts.{Uses, same_uuid}
+use Rattle.env_maps.specs.Maps.{project_uses}
 
 -- an entry that is a file, with the folder whose project file belongs to it
 abbrev pub spot_if : Files → Option Path → Path → Option Spot
@@ -34,11 +33,11 @@ abbrev pub spot : Files → Path → List ℕ → Option Spot
 spot files folder name =
     or_next (inside files folder name name) (or_next (inside files folder (name ++ codes ".jl") name) (alone files folder (name ++ codes ".jl")))
 
--- a package of a package folder: its entry file, its identifier, and its dependencies where it has a project file
+-- a package of a package folder: its entry file, its identifier, and what it uses where it has a project file
 pub record Candidate : Type 0 where
   pub entry : Path
   pub uuid : Option (List ℕ)
-  pub deps : Option (List (List ℕ × List ℕ))
+  pub uses : Option Uses
 
 -- the namespace fe0723d6-3a44-4c41-8065-ee0f42c8ceab
 abbrev pub namespace : List ℕ
@@ -46,22 +45,22 @@ namespace = 254 ∷ 7 ∷ 35 ∷ 214 ∷ 58 ∷ 68 ∷ 76 ∷ 65 ∷ 128 ∷ 101
 
 -- the identifier of a package whose project file has none: version 5 (RFC 9562), of that file's path
 abbrev pub made_up : Path → List ℕ
-made_up file = with_version (with_variant (take 16 (sha1 (namespace ++ path_text file))) RFC4122) Sha1
+made_up file = named_id namespace (path_text file)
 
 abbrev pub uuid_or_made : Path → Option (List ℕ) → List ℕ
 uuid_or_made file None = made_up file
 uuid_or_made file (Some uuid) = uuid
 
--- without a project file a package has no identifier and no dependencies of its own
+-- without a project file a package has no identifier and uses nothing of its own
 abbrev pub candidate_of : Path → Path → Option project.Said → Candidate
-candidate_of entry file None = record { entry = entry; uuid = None; deps = None }
-candidate_of entry file (Some said) = record { entry = entry; uuid = Some (uuid_or_made file said.uuid); deps = Some said.deps }
+candidate_of entry file None = record { entry = entry; uuid = None; uses = None }
+candidate_of entry file (Some said) = record { entry = entry; uuid = Some (uuid_or_made file said.uuid); uses = Some (project_uses said) }
 
 abbrev pub candidate_with : Files → Path → Path → Read Candidate
 candidate_with files entry file = then_ok (at_file file (project_in (holds file files))) (λ said. Ok (candidate_of entry file said))
 
 abbrev pub candidate_at : Files → Path → Option Path → Read Candidate
-candidate_at files entry None = Ok (record { entry = entry; uuid = None; deps = None })
+candidate_at files entry None = Ok (record { entry = entry; uuid = None; uses = None })
 candidate_at files entry (Some home) = candidate_with files entry (file_in files home)
 
 abbrev pub of_spot : Files → Option Spot → Read (Option Candidate)
@@ -96,9 +95,9 @@ if_uuid uuid candidate = if equal_uuids candidate.uuid uuid then Some candidate 
 abbrev pub with_uuid : Option (List ℕ) → Option Candidate → Option Candidate
 with_uuid uuid found = option_and_then (if_uuid uuid) found
 
--- the dependencies of an identity, by the package of its name
-abbrev pub graph_at : Option (List ℕ) → Option Candidate → Option (List (List ℕ × List ℕ))
-graph_at uuid found = option_and_then (λ candidate. candidate.deps) (with_uuid uuid found)
+-- what an identity uses, by the package of its name
+abbrev pub graph_at : Option (List ℕ) → Option Candidate → Option Uses
+graph_at uuid found = option_and_then (λ candidate. candidate.uses) (with_uuid uuid found)
 
 -- the entry of an identity, by the package of its name
 abbrev pub path_at : Option (List ℕ) → Option Candidate → Option Path

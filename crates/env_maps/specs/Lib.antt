@@ -1,5 +1,6 @@
 pub mod ByName
 pub mod Candidates
+pub mod Contexts
 pub mod Library
 pub mod Maps
 pub mod ThreeMaps

@@ -15,19 +15,20 @@ use Rattle.manifest_file.specs.declared.origin.Origin.TheVariants.{Tree, Path as
 use Rattle.depot_hash.specs.Installed.{installed_in}
 use Rattle.env_maps.specs.declared.id.Id.{Id}
 use Rattle.env_maps.specs.declared.id.Context.{Context}
-use Rattle.env_maps.specs.declared.id.Context.TheVariants.{Top, Package}
 use Rattle.env_maps.specs.declared.id.DepAnswer.{DepAnswer}
 use Rattle.env_maps.specs.declared.id.DepAnswer.TheVariants.{NotMine, NoName, Found}
+use Rattle.entry_files.specs.Entries.{source_text}
+use Rattle.env_maps.specs.Contexts.{Uses, same_uuid, base_of, path_from}
 use Rattle.env_maps.specs.Library.{library_folder, library_read}
 use Rattle.project_places.specs.Files.{Read, at_file, project_in, manifest_in}
 use Rattle.project_places.specs.ManifestPath.{manifest_path}
 
--- a project: where its file is or would be, the identity of its own package, its dependencies, and the stanzas of its
+-- a project: where its file is or would be, the identity of its own package, what it uses, and the stanzas of its
 -- manifest with the folder from which their paths go; the depots and the standard library folder of its place
 pub record Env : Type 0 where
   pub file : Path
   pub own : Option Id
-  pub deps : List (List ℕ × List ℕ)
+  pub uses : Uses
   pub folder : Path
   pub stanzas : List SaidStanza
   pub depots : List Path
@@ -64,23 +65,34 @@ own_of (Some name) (Some uuid) = Some (record { uuid = Some uuid; name = name })
 own_of (Some name) None = None
 own_of None uuid = None
 
--- the environment of a project, by its own package and its dependencies, and of the stanzas of its manifest; a stanza's
--- path that rises above the root is refused
-abbrev pub env_of : Place → Path → Option Id → List (List ℕ × List ℕ) → Path → List SaidStanza → Read Env
-env_of place file own deps path stanzas =
-    at_file path (unless_escaping (first_escaping (folder_of path) stanzas)
-    (record { file = file; own = own; deps = deps; folder = folder_of path; stanzas = stanzas; depots = place.depots.items; stdlib = place.stdlib }))
+-- what a project's file says of the packages that it uses
+abbrev pub project_uses : project.Said → Uses
+project_uses said = record { deps = said.deps; weakdeps = said.weakdeps; extensions = said.extensions }
 
-abbrev pub env_at : Files → Place → Path → Option Id → List (List ℕ × List ℕ) → Path → Read Env
-env_at files place file own deps path = then_ok (at_file path (manifest_in (holds path files))) (λ found. env_of place file own deps path found.stanzas)
+-- the same of a stanza
+abbrev pub stanza_uses : SaidStanza → Uses
+stanza_uses stanza = record { deps = stanza.deps; weakdeps = stanza.weakdeps; extensions = stanza.extensions }
+
+abbrev pub no_uses : Uses
+no_uses = record { deps = []; weakdeps = []; extensions = [] }
+
+-- the environment of a project, by its own package and what it uses, and of the stanzas of its manifest; a stanza's
+-- path that rises above the root is refused
+abbrev pub env_of : Place → Path → Option Id → Uses → Path → List SaidStanza → Read Env
+env_of place file own uses path stanzas =
+    at_file path (unless_escaping (first_escaping (folder_of path) stanzas)
+    (record { file = file; own = own; uses = uses; folder = folder_of path; stanzas = stanzas; depots = place.depots.items; stdlib = place.stdlib }))
+
+abbrev pub env_at : Files → Place → Path → Option Id → Uses → Path → Read Env
+env_at files place file own uses path = then_ok (at_file path (manifest_in (holds path files))) (λ found. env_of place file own uses path found.stanzas)
 
 abbrev pub no_env : Place → Path → Env
-no_env place file = record { file = file; own = None; deps = []; folder = folder_of file; stanzas = []; depots = place.depots.items; stdlib = place.stdlib }
+no_env place file = record { file = file; own = None; uses = no_uses; folder = folder_of file; stanzas = []; depots = place.depots.items; stdlib = place.stdlib }
 
 -- a project file that isn't there gives an environment without entries, whatever manifest lies beside it
 abbrev pub env_with : Files → Place → Path → Option project.Said → Read Env
 env_with files place file None = Ok (no_env place file)
-env_with files place file (Some said) = then_ok (at_file file (manifest_path files file said.manifest)) (env_at files place file (own_of said.name said.uuid) said.deps)
+env_with files place file (Some said) = then_ok (at_file file (manifest_path files file said.manifest)) (env_at files place file (own_of said.name said.uuid) (project_uses said))
 
 -- the environment of a project file: the file itself, then its manifest
 abbrev pub env_in : Files → Place → Path → Read Env
@@ -98,13 +110,7 @@ own_or name (Some id) dep = if bytes_eq id.name name then Some id else dep
 
 -- names to identities: the project's own name, then its dependencies
 abbrev pub root_of : Env → List ℕ → Option Id
-root_of env name = own_or name env.own (dep_of name env.deps)
-
--- whether two identifiers are there and the same
-abbrev pub same_uuid : Option (List ℕ) → Option (List ℕ) → Bool
-same_uuid (Some a) (Some b) = bytes_eq a b
-same_uuid (Some a) None = false
-same_uuid None b = false
+root_of env name = own_or name env.own (dep_of name env.uses.deps)
 
 abbrev pub is_identity : Id → Option Id → Bool
 is_identity id None = false
@@ -114,10 +120,6 @@ is_identity id (Some other) = bytes_eq other.name id.name && same_uuid other.uui
 abbrev pub stanza_of : Id → List SaidStanza → Option SaidStanza
 stanza_of id [] = None
 stanza_of id (stanza ∷ more) = if bytes_eq stanza.name id.name && same_uuid (Some stanza.uuid) id.uuid then Some stanza else stanza_of id more
-
--- `src/X.jl`
-abbrev pub source_text : List ℕ → List ℕ
-source_text name = codes "src/" ++ (name ++ codes ".jl")
 
 -- a stanza's path is the entry file itself where it is a file, else the folder that holds `src/X.jl`
 abbrev pub entry_at : Files → List ℕ → Path → Option Path
@@ -168,17 +170,17 @@ is_library env id = not (is_identity id env.own) && is_std (stanza_of id env.sta
 abbrev pub library_for : Files → Env → Id → Read (Option (List ℕ))
 library_for files env id = if is_library env id then library_read files env.stdlib id.name else Ok None
 
--- the entry path of an identity, or the refused project file of its standard library
-abbrev pub entry_in : Files → Env → Id → Read (Option Path)
-entry_in files env id = then_ok (library_for files env id) (λ library. Ok (path_with files library env id))
+-- packages to what they use: the project for its own package, which comes before a stanza, else the stanza
+abbrev pub graph_of : Env → Id → Option Uses
+graph_of env id = if is_identity id env.own then Some env.uses else option_map stanza_uses (stanza_of id env.stanzas)
 
--- contexts to their dependencies: those of the project for its own package, which comes before a stanza, else the stanza's
-abbrev pub graph_of : Env → Id → Option (List (List ℕ × List ℕ))
-graph_of env id = if is_identity id env.own then Some env.deps else option_map (λ stanza. stanza.deps) (stanza_of id env.stanzas)
+abbrev pub path_seen : Files → Option (List ℕ) → Env → Context → Id → Option Path
+path_seen files library env context id = path_from files (graph_of env) (path_with files library env) context id
 
-abbrev pub in_graph : (Id → Option (List (List ℕ × List ℕ))) → Context → Option (List (List ℕ × List ℕ))
-in_graph graph Top = None
-in_graph graph (Package id) = graph id
+-- the entry path of an identity as it is seen from a context, or the refused project file of the standard library that it
+-- lies in
+abbrev pub entry_in : Files → Env → Context → Id → Read (Option Path)
+entry_in files env context id = then_ok (library_for files env (base_of context id)) (λ library. Ok (path_seen files library env context id))
 
 abbrev pub found_or_none : Option Id → DepAnswer
 found_or_none None = NoName

@@ -1,15 +1,16 @@
--- The three maps of an environment (Julia manual, Code Loading): names to identities, contexts to their dependencies, and
--- identities to entry paths. They speak of every name.
+-- The three maps of an environment (Julia manual, Code Loading): names to identities, packages to what they use, and
+-- identities to entry paths. They speak of every name. What is seen from an extension of a package follows from the last two.
 use Rattle.std.specs.Prelude.{ℕ, List, Option}
 use Rattle.pkg_world.specs.Path.{Path}
 use Rattle.pkg_world.specs.Tree.{Files}
 use Rattle.env_maps.specs.declared.id.Id.{Id}
+use Rattle.env_maps.specs.Contexts.{Uses}
 use Rattle.env_maps.specs.Maps.{Env, root_of, graph_of, path_with}
 use Rattle.env_maps.specs.Candidates.{Candidate, root_at, graph_at, path_at}
 
 pub record Maps : Type 0 where
   pub roots : List ℕ → Option Id
-  pub graph : Id → Option (List (List ℕ × List ℕ))
+  pub graph : Id → Option Uses
   pub paths : Id → Option Path
 
 -- the maps of a project, by the identifiers that the standard libraries have

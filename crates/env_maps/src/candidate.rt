@@ -9,7 +9,9 @@ ghost use Rattle.project_places.specs.Faults.{ReadFaultRose};
 use crate::id::is_uuid;
 use crate::parts::{Parts, parts_of};
 use crate::spot::{Spot, spot_of};
-use pkg_world::{Name, NameIds, NormPath, Store};
+use crate::uses::Uses;
+use extension_rules::named_id;
+use pkg_world::{Name, NormPath, Store};
 use project_file::Project;
 use project_places::{EnvFault, file_in, project_at};
 use std::alloc::Global;
@@ -21,21 +23,20 @@ const NAMESPACE: [u8; 16] = [
     0xfe, 0x07, 0x23, 0xd6, 0x3a, 0x44, 0x4c, 0x41, 0x80, 0x65, 0xee, 0x0f, 0x42, 0xc8, 0xce, 0xab,
 ];
 
-/// A package of a package folder: its entry file, its identifier, and its dependencies where it has a project file.
+/// A package of a package folder: its entry file, its identifier, and what it uses where it has a project file.
 #[derive(Debug, Drop)]
 pub(crate) struct Candidate {
     pub entry: NormPath,
     pub uuid: Option<Uuid>,
-    pub deps: Option<NameIds>,
+    pub uses: Option<Uses>,
 }
 
 impl Model for Candidate {
-    ghost use Rattle.std.specs.Prelude.{option_map};
     ghost use Rattle.env_maps.specs.Candidates.{Candidate};
 
     ghost Value = { Candidate };
 
-    ghost view = { λ a. record { entry = a.entry; uuid = a.uuid; deps = option_map (λ d. d.items) a.deps } };
+    ghost view = { λ a. record { entry = a.entry; uuid = a.uuid; uses = a.uses } };
 }
 
 /// The package of that name in a package folder.
@@ -143,24 +144,24 @@ fn candidate_of(entry: NormPath, file: &NormPath, project: Option<Project>) -> C
 }
 
 fn candidate_with_parts(entry: NormPath, file: &NormPath, parts: Parts) -> Candidate
-    ensures { result ≡ record { entry = entry; uuid = Some (spec.uuid_or_made file.now parts.uuid); deps = Some parts.deps.items } }
+    ensures { result ≡ record { entry = entry; uuid = Some (spec.uuid_or_made file.now parts.uuid); uses = Some parts.uses } }
 {
-    let Parts { uuid, deps, .. } = parts;
+    let Parts { uuid, uses, .. } = parts;
     Candidate {
         entry,
         uuid: Some(uuid_or_made(file, uuid)),
-        deps: Some(deps),
+        uses: Some(uses),
     }
 }
 
-/// A package without a project file: it has no identifier, and no dependencies of its own.
+/// A package without a project file: it has no identifier, and uses nothing of its own.
 fn bare(entry: NormPath) -> Candidate
-    ensures { result ≡ record { entry = entry; uuid = None; deps = None } }
+    ensures { result ≡ record { entry = entry; uuid = None; uses = None } }
 {
     Candidate {
         entry,
         uuid: None,
-        deps: None,
+        uses: None,
     }
 }
 
@@ -178,7 +179,7 @@ fn made_up(file: &NormPath) -> Uuid
     ensures { result ≡ spec.made_up file.now }
 {
     let namespace = Uuid::from_bytes(NAMESPACE);
-    Uuid::new_v5(&namespace, file.as_str().as_bytes())
+    named_id(&namespace, file.as_str())
 }
 
 /// Whether the package has that identifier, or none where there is none.

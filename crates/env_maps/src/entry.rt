@@ -1,7 +1,7 @@
 //! Entry files.
-ghost use Rattle.std.specs.Prelude.{◌≡◌, ◌≤◌, IfSome, IfOk, IfErr, option_map, string_bytes};
+ghost use Rattle.std.specs.Prelude.{◌≡◌, ◌≤◌, IfSome, IfOk, IfErr, option_map};
 ghost use Rattle.std.specs.Option.{option_copied, option_and_then};
-ghost use Rattle.pkg_world.specs.Path.{joined, folder_of};
+ghost use Rattle.pkg_world.specs.Path.{joined};
 ghost use Rattle.manifest_file.specs.Said.{said_stanza};
 ghost use Rattle.depot_hash.specs.Installed.{installed_in};
 ghost use Rattle.env_maps.specs.Maps as spec;
@@ -10,6 +10,7 @@ ghost use Rattle.project_places.specs.Faults.{OnlyReadFault};
 use crate::id::is_uuid;
 use crate::library::library_folder;
 use depot_hash::{FolderFault, installed};
+use entry_files::source_inside;
 use manifest_file::{Origin, Stanza};
 use pkg_world::{Name, NormPath, NormPaths, Store, TreeId};
 use project_places::{EnvFault, is_there, path_in};
@@ -146,35 +147,4 @@ fn tree_entry<S: Store>(
         Err(FolderFault::Limit(_, _)) => unreachable!(),
         Err(FolderFault::Memory) => Err(EnvFault::Memory),
     }
-}
-
-/// `src/X.jl` beside a file; None where it would rise above the root.
-pub(crate) fn source_beside(
-    alloc: Global,
-    file: &NormPath,
-    name: &Name,
-) -> Result<Option<NormPath>, AllocError>
-    ensures { IfOk result (λ path. path ≡ joined (folder_of file.now) (spec.source_text name.now)) }
-{
-    let folder = file.folder(alloc)?;
-    source_inside(alloc, &folder, name)
-}
-
-/// `src/X.jl` inside a folder; None where it would rise above the root.
-pub(crate) fn source_inside(
-    alloc: Global,
-    folder: &NormPath,
-    name: &Name,
-) -> Result<Option<NormPath>, AllocError>
-    ensures { IfOk result (λ path. path ≡ joined folder.now (spec.source_text name.now)) }
-{
-    let text = source_text(alloc, name)?;
-    path_in(alloc, folder, text.as_str())
-}
-
-fn source_text(alloc: Global, name: &Name) -> Result<String, AllocError>
-    ensures { IfOk result (λ text. string_bytes text ≡ spec.source_text name.now) }
-{
-    let text = name.as_str();
-    format!(in alloc; "src/{text}.jl")
 }

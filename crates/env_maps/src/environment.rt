@@ -1,20 +1,28 @@
 //! The environment of a project.
-ghost use Rattle.std.specs.Prelude.{◌≡◌, ◌≤◌, ◌&&◌, ◌==◌, Some, IfSome, IfOk, IfErr, map, option_map};
+ghost use Rattle.std.specs.Prelude.{◌≡◌, ◌≤◌, ◌&&◌, Some, IfSome, IfOk, IfErr, map, option_map};
 ghost use Rattle.std.specs.Option.{option_copied};
 ghost use Rattle.std.specs.Str.{bytes_eq};
 ghost use Rattle.project_file.specs.Said.{said as said_project};
 ghost use Rattle.manifest_file.specs.Said.{said_stanza};
+ghost use Rattle.env_maps.specs.ByName.{found_in};
+ghost use Rattle.env_maps.specs.Contexts.{in_graph, path_by, path_from, same_uuid};
 ghost use Rattle.env_maps.specs.Maps as spec;
+ghost use Rattle.env_maps.specs.ThreeMaps.{project_maps};
 ghost use Rattle.project_places.specs.Files.{Loads};
 ghost use Rattle.project_places.specs.Faults.{OnlyReadFault, NoReadFault, ReadFaultRose};
 
-use crate::entry::{source_beside, stanza_entry};
+use crate::context::{
+    base_of, dep_from_extension, dep_from_package, dependency_among, entry_from, package_id,
+};
+use crate::entry::stanza_entry;
 use crate::escaping::{first_escaping, path_refused};
 use crate::id::{Context, DepAnswer, Id, is_uuid};
-use crate::library::library_uuid;
+use crate::library::{Library, library_uuid};
 use crate::parts::{Parts, parts_of};
+use crate::uses::{Uses, UsesRef, stanza_uses};
+use entry_files::source_beside;
 use manifest_file::{Manifest, Origin, Stanza, Stanzas};
-use pkg_world::{Duplicate, Name, NameIds, NormPath, NormPaths, Place, Store};
+use pkg_world::{Duplicate, Name, NormPath, NormPaths, Place, Store};
 use project_file::Project;
 use project_places::{EnvFault, manifest_at, manifest_path, project_at};
 use std::alloc::{AllocError, Global};
@@ -27,7 +35,7 @@ use uuid::Uuid;
 pub struct ProjectEnv {
     file: NormPath,
     own: Option<Own>,
-    deps: NameIds,
+    uses: Uses,
     folder: NormPath,
     stanzas: Stanzas,
     depots: NormPaths,
@@ -41,7 +49,7 @@ impl Model for ProjectEnv {
 
     ghost Value = { Env };
 
-    ghost view = { λ a. record { file = a.file; own = a.own; deps = a.deps.items; folder = a.folder; stanzas = map said_stanza a.stanzas.items; depots = a.depots.items; stdlib = a.stdlib } };
+    ghost view = { λ a. record { file = a.file; own = a.own; uses = a.uses; folder = a.folder; stanzas = map said_stanza a.stanzas.items; depots = a.depots.items; stdlib = a.stdlib } };
 }
 
 /// The identity of a project's own package: it has an identifier.
@@ -60,11 +68,11 @@ impl Model for Own {
     ghost view = { λ a. record { uuid = Some a.uuid; name = a.name } };
 }
 
-/// What an environment keeps of a project file: the identity of its own package, and its dependencies.
+/// What an environment keeps of a project file: the identity of its own package, and what that uses.
 #[derive(Drop)]
 struct Kept {
     own: Option<Own>,
-    deps: NameIds,
+    uses: Uses,
 }
 
 /// What an environment has of its place, and where its project file is or would be.
@@ -107,78 +115,108 @@ impl ProjectEnv {
         match &self.own {
             Some(own) => {
                 if own.name.as_str() == name.as_str() {
-                    identity(alloc, &own.name, own.uuid)
+                    Ok(Some(package_id(alloc, &own.uuid, &own.name)?))
                 } else {
-                    dependency_among(alloc, self.deps.items(), name)
+                    dependency_among(alloc, self.uses.deps.items(), name)
                 }
             }
-            None => dependency_among(alloc, self.deps.items(), name),
+            None => dependency_among(alloc, self.uses.deps.items(), name),
         }
     }
 
     /// What the project's graph says of a name from a context: the project's own package has the dependencies of its
-    /// file, and each other package those of its stanza. (Julia manual, Code Loading.) The one error is want of memory.
+    /// file, and each other package those of its stanza; each extension that the file or the stanza names has its package,
+    /// its triggers and those dependencies. (Julia manual, Code Loading.) The one error is want of memory.
     pub fn dep(
         &self,
         alloc: Global,
         context: &Context,
         name: &Name,
     ) -> Result<DepAnswer, AllocError>
-        ensures { IfOk result (λ answer. answer ≡ spec.dep_answer name.now (spec.in_graph (spec.graph_of self.now) context.now)) }
+        ensures { IfOk result (λ answer. answer ≡ spec.dep_answer name.now (in_graph (spec.graph_of self.now) context.now)) }
     {
         match context {
             Context::Top => Ok(DepAnswer::NotMine),
-            Context::Package(id) => self.dep_of_package(alloc, id, name),
-        }
-    }
-
-    fn dep_of_package(
-        &self,
-        alloc: Global,
-        package: &Id,
-        name: &Name,
-    ) -> Result<DepAnswer, AllocError>
-        ensures { IfOk result (λ answer. answer ≡ spec.dep_answer name.now (spec.graph_of self.now «package».now)) }
-    {
-        if self.is_own(package) {
-            return dep_among(alloc, self.deps.items(), name);
-        }
-        match self.stanza(package) {
-            Some(stanza) => dep_among(alloc, stanza.deps.items(), name),
-            None => Ok(DepAnswer::NotMine),
+            Context::Package(id) => dep_from_package(alloc, self.uses(id), name),
+            Context::Extension(uuid, parent, extension) => {
+                let id = package_id(alloc, uuid, parent)?;
+                dep_from_extension(alloc, self.uses(&id), uuid, parent, extension, name)
+            }
         }
     }
 
     /// The path of an identity's entry file, which need not be there: `src/X.jl` beside the project file for the
     /// project's own package X; for a stanza with a path the file itself where that path is a file, else `src/X.jl`
     /// inside; for a stanza with a tree `src/X.jl` inside the installed tree; for a standard library `X/src/X.jl` in
-    /// their folder, where X's project file there has the stanza's identifier. None exactly where the environment has no
-    /// path for it.
+    /// their folder, where X's project file there has the stanza's identifier. From an extension the extension itself has
+    /// its own, beside its parent's `src`. None exactly where the environment has no path for it.
     ///
-    /// Errors: BadFile, exactly where the identity is a standard library whose project file is refused; ReadFault, where
-    /// the store can't read; want of memory.
+    /// Errors: BadFile, exactly where the identity, or the extension's parent, is a standard library whose project file is
+    /// refused; ReadFault, where the store can't read; want of memory.
     pub fn entry<S: Store>(
         &self,
         alloc: Global,
         store: &mut S,
-        _context: &Context,
+        context: &Context,
         id: &Id,
     ) -> Result<Option<NormPath>, EnvFault>
-        ensures told { IfSome (S.files store.old) (λ all. Loads (spec.entry_in all self.now id.now) result) }
+        ensures told { IfSome (S.files store.old) (λ all. Loads (spec.entry_in all self.now context.now id.now) result) }
         ensures fault { IfErr result (ReadFaultRose (S.read_faults store.old) (S.read_faults store.new)) }
         ensures files { S.files store.new ≡ S.files store.old }
         ensures later { S.read_faults store.old ≤ S.read_faults store.new }
         ensures other { S.write_faults store.new ≡ S.write_faults store.old }
     {
-        match self.library_for(alloc, store, id) {
-            Ok(library) => Ok(self.entry_by(alloc, store, &library, id)?),
+        let base = base_of(alloc, context, id)?;
+        match self.library_for(alloc, store, &base) {
+            Ok(library) => Ok(self.entry_seen(alloc, store, &library, context, id, &base)?),
             Err(fault) => Err(fault),
         }
     }
 
-    /// The same where the identifier that the standard library of the identity's name has is known already: no file is
-    /// read then, and ReadFault is the one refusal beside want of memory.
+    /// The same where the identifiers that the standard libraries have are known already: no file is read then, and
+    /// ReadFault is the one refusal beside want of memory.
     pub fn entry_by<S: Store>(
+        &self,
+        alloc: Global,
+        store: &mut S,
+        library: &Library,
+        context: &Context,
+        id: &Id,
+    ) -> Result<Option<NormPath>, EnvFault>
+        ensures path { IfSome (S.files store.old) (λ all. IfOk result (λ path. path ≡ path_from all (spec.graph_of self.now) (project_maps all (found_in library.now) self.now).paths context.now id.now)) }
+        ensures refused { IfErr result (OnlyReadFault (S.read_faults store.old) (S.read_faults store.new)) }
+        ensures files { S.files store.new ≡ S.files store.old }
+        ensures later { S.read_faults store.old ≤ S.read_faults store.new }
+        ensures other { S.write_faults store.new ≡ S.write_faults store.old }
+    {
+        let base = base_of(alloc, context, id)?;
+        self.entry_seen(alloc, store, &library.uuid(&base.name), context, id, &base)
+    }
+
+    /// The same by the identifier that the standard library of the base's name has.
+    fn entry_seen<S: Store>(
+        &self,
+        alloc: Global,
+        store: &mut S,
+        library: &Option<Uuid>,
+        context: &Context,
+        id: &Id,
+        base: &Id,
+    ) -> Result<Option<NormPath>, EnvFault>
+        ensures path { IfSome (S.files store.old) (λ all. IfOk result (λ path. path ≡ path_by all context.now id.now (spec.graph_of self.now base.now) (spec.path_with all library.now self.now base.now))) }
+        ensures refused { IfErr result (OnlyReadFault (S.read_faults store.old) (S.read_faults store.new)) }
+        ensures files { S.files store.new ≡ S.files store.old }
+        ensures later { S.read_faults store.old ≤ S.read_faults store.new }
+        ensures other { S.write_faults store.new ≡ S.write_faults store.old }
+    {
+        match self.entry_of(alloc, store, library, base) {
+            Ok(entry) => entry_from(alloc, store, context, id, self.uses(base), entry),
+            Err(fault) => Err(fault),
+        }
+    }
+
+    /// The entry file of a package.
+    fn entry_of<S: Store>(
         &self,
         alloc: Global,
         store: &mut S,
@@ -204,6 +242,19 @@ impl ProjectEnv {
             library,
             stanza,
         )
+    }
+
+    /// What a package uses: the project for its own package, else the stanza; None where there is neither.
+    fn uses<'a>(&'a self, id: &Id) -> Option<UsesRef<'a>>
+        ensures { result ≡ spec.graph_of self.now id.now }
+    {
+        if self.is_own(id) {
+            return Some(self.uses.lent());
+        }
+        match self.stanza(id) {
+            Some(stanza) => Some(stanza_uses(stanza)),
+            None => None,
+        }
     }
 
     /// The identifier that the standard library of the identity's name has, where the identity is one.
@@ -251,13 +302,14 @@ impl ProjectEnv {
     }
 }
 
+#[tactic(auto, unfolding(project_file::specs::Said::said))]
 fn kept_of(project: Project) -> Kept
-    ensures { result ≡ record { own = spec.own_of project.name project.uuid; deps = project.deps } }
+    ensures { result ≡ record { own = spec.own_of project.name project.uuid; uses = spec.project_uses (said_project project) } }
 {
-    let Parts { name, uuid, deps } = parts_of(project);
+    let Parts { name, uuid, uses } = parts_of(project);
     Kept {
         own: own_of(name, uuid),
-        deps,
+        uses,
     }
 }
 
@@ -274,35 +326,6 @@ fn own_of(name: Option<Name>, uuid: Option<Uuid>) -> Option<Own>
     }
 }
 
-fn dependency_among(
-    alloc: Global,
-    deps: &[(Name, Uuid)],
-    name: &Name,
-) -> Result<Option<Id>, AllocError>
-    ensures { IfOk result (λ id. id ≡ spec.dep_of name.now deps.now) }
-{
-    for (key, uuid) in deps {
-        if key.as_str() == name.as_str() {
-            return identity(alloc, name, *uuid);
-        }
-    }
-    Ok(None)
-}
-
-/// What a context's dependencies say of a name.
-pub(crate) fn dep_among(
-    alloc: Global,
-    deps: &[(Name, Uuid)],
-    name: &Name,
-) -> Result<DepAnswer, AllocError>
-    ensures { IfOk result (λ answer. answer ≡ spec.dep_answer name.now (Some deps.now)) }
-{
-    match dependency_among(alloc, deps, name)? {
-        Some(id) => Ok(DepAnswer::Found(id)),
-        None => Ok(DepAnswer::NoName),
-    }
-}
-
 fn stanza_among<'a>(stanzas: &'a [Stanza], id: &Id) -> Option<&'a Stanza>
     ensures { option_map said_stanza (option_copied result) ≡ spec.stanza_of id.now (map said_stanza stanzas.now) }
 {
@@ -314,19 +337,9 @@ fn stanza_among<'a>(stanzas: &'a [Stanza], id: &Id) -> Option<&'a Stanza>
     None
 }
 
-fn identity(alloc: Global, name: &Name, uuid: Uuid) -> Result<Option<Id>, AllocError>
-    ensures { IfOk result (λ id. id ≡ Some (record { uuid = Some uuid; name = name.now })) }
-{
-    let name = name.copy(alloc)?;
-    Ok(Some(Id {
-        uuid: Some(uuid),
-        name,
-    }))
-}
-
 /// Whether a stanza is of that identity.
 fn is_of(stanza: &Stanza, id: &Id) -> bool
-    ensures { result ≡ (bytes_eq stanza.now.name id.now.name && spec.same_uuid (Some stanza.now.uuid) id.now.uuid) }
+    ensures { result ≡ (bytes_eq stanza.now.name id.now.name && same_uuid (Some stanza.now.uuid) id.now.uuid) }
 {
     stanza.name.as_str() == id.name.as_str() && is_uuid(&id.uuid, &stanza.uuid)
 }
@@ -358,7 +371,7 @@ fn empty(alloc: Global, place: &Place, file: &NormPath) -> Result<ProjectEnv, Al
     let folder = file.folder(alloc)?;
     let kept = Kept {
         own: None,
-        deps: NameIds::make(alloc),
+        uses: Uses::none(alloc),
     };
     made(alloc, place, file, kept, folder, Stanzas::make(alloc))
 }
@@ -392,7 +405,7 @@ fn with_manifest_at<S: Store>(
     kept: Kept,
     path: &NormPath,
 ) -> Result<ProjectEnv, EnvFault>
-    ensures told { IfSome (S.files store.old) (λ all. Loads (spec.env_at all place.now file.now kept.own kept.deps.items path.now) result) }
+    ensures told { IfSome (S.files store.old) (λ all. Loads (spec.env_at all place.now file.now kept.own kept.uses path.now) result) }
     ensures fault { IfErr result (ReadFaultRose (S.read_faults store.old) (S.read_faults store.new)) }
     ensures files { S.files store.new ≡ S.files store.old }
     ensures later { S.read_faults store.old ≤ S.read_faults store.new }
@@ -421,7 +434,7 @@ fn with_stanzas(
     path: &NormPath,
     stanzas: Stanzas,
 ) -> Result<ProjectEnv, EnvFault>
-    ensures told { Loads (spec.env_of place.now file.now kept.own kept.deps.items path.now (map said_stanza stanzas.items)) result }
+    ensures told { Loads (spec.env_of place.now file.now kept.own kept.uses path.now (map said_stanza stanzas.items)) result }
     ensures fault { IfErr result NoReadFault }
 {
     let folder = path.folder(alloc)?;
@@ -439,18 +452,18 @@ fn made(
     folder: NormPath,
     stanzas: Stanzas,
 ) -> Result<ProjectEnv, AllocError>
-    ensures { IfOk result (λ env. env ≡ record { file = file.now; own = kept.own; deps = kept.deps.items; folder = folder; stanzas = map said_stanza stanzas.items; depots = place.now.depots.items; stdlib = place.now.stdlib }) }
+    ensures { IfOk result (λ env. env ≡ record { file = file.now; own = kept.own; uses = kept.uses; folder = folder; stanzas = map said_stanza stanzas.items; depots = place.now.depots.items; stdlib = place.now.stdlib }) }
 {
     let Copies {
         file,
         depots,
         stdlib,
     } = copies_of(alloc, place, file)?;
-    let Kept { own, deps } = kept;
+    let Kept { own, uses } = kept;
     Ok(ProjectEnv {
         file,
         own,
-        deps,
+        uses,
         folder,
         stanzas,
         depots,

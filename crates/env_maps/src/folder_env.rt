@@ -4,14 +4,16 @@ ghost use Rattle.std.specs.Option.{option_copied};
 ghost use Rattle.env_maps.specs.ByName.{found_in, with_name};
 ghost use Rattle.env_maps.specs.Candidates as spec;
 ghost use Rattle.project_places.specs.Files.{Adds, Loads};
-ghost use Rattle.env_maps.specs.Maps.{dep_answer, in_graph};
+ghost use Rattle.env_maps.specs.Contexts.{in_graph, path_from};
+ghost use Rattle.env_maps.specs.Maps.{dep_answer};
 ghost use Rattle.env_maps.specs.ThreeMaps.{folder_maps};
-ghost use Rattle.project_places.specs.Faults.{ReadFaultRose};
+ghost use Rattle.project_places.specs.Faults.{OnlyReadFault, ReadFaultRose};
 
-use crate::by_name::found_at;
 use crate::candidate::{Candidate, candidate_in, has_uuid};
-use crate::environment::dep_among;
+use crate::context::{base_of, dep_from_extension, dep_from_package, entry_from, package_id};
 use crate::id::{Context, DepAnswer, Id};
+use crate::uses::UsesRef;
+use extension_rules::found_at;
 use pkg_world::{Duplicate, Listed, Name, Names, NormPath, Store};
 use project_places::EnvFault;
 use std::alloc::{AllocError, Global};
@@ -73,7 +75,8 @@ impl FolderEnv {
     }
 
     /// What the folder's graph says of a name from a context: each package with a project file has that file's
-    /// dependencies. The one error is want of memory.
+    /// dependencies, and each extension that the file names has the package, its triggers and those dependencies. The one
+    /// error is want of memory.
     pub fn dep(
         &self,
         alloc: Global,
@@ -84,38 +87,53 @@ impl FolderEnv {
     {
         match context {
             Context::Top => Ok(DepAnswer::NotMine),
-            Context::Package(id) => self.dep_of_package(alloc, id, name),
+            Context::Package(id) => dep_from_package(alloc, self.uses(id), name),
+            Context::Extension(uuid, parent, extension) => {
+                let id = package_id(alloc, uuid, parent)?;
+                dep_from_extension(alloc, self.uses(&id), uuid, parent, extension, name)
+            }
         }
     }
 
-    fn dep_of_package(&self, alloc: Global, id: &Id, name: &Name) -> Result<DepAnswer, AllocError>
-        ensures { IfOk result (λ answer. answer ≡ dep_answer name.now ((folder_maps (found_in self.now)).graph id.now)) }
-    {
-        match self.candidate_of(id) {
-            Some(candidate) => dep_of_candidate(alloc, candidate, name),
-            None => Ok(DepAnswer::NotMine),
-        }
-    }
-
-    /// The path of an identity's entry file; None exactly where the folder has no package of that name and identifier.
+    /// The path of an identity's entry file; None exactly where the folder has no package of that name and identifier. From
+    /// an extension the extension itself has its own, beside its parent's `src`.
     ///
-    /// Errors: want of memory.
+    /// Errors: ReadFault, where the store can't tell what is there; want of memory.
     pub fn entry<S: Store>(
         &self,
         alloc: Global,
-        _store: &mut S,
-        _context: &Context,
+        store: &mut S,
+        context: &Context,
         id: &Id,
     ) -> Result<Option<NormPath>, EnvFault>
-        ensures path { IfOk result (λ path. path ≡ (folder_maps (found_in self.now)).paths id.now) }
-        ensures memory { IfErr result (λ fault. fault ≡ EnvFault.Memory) }
-        ensures files { S.files _store.new ≡ S.files _store.old }
-        ensures later { S.read_faults _store.old ≤ S.read_faults _store.new }
-        ensures other { S.write_faults _store.new ≡ S.write_faults _store.old }
+        ensures path { IfSome (S.files store.old) (λ all. IfOk result (λ path. path ≡ path_from all (folder_maps (found_in self.now)).graph (folder_maps (found_in self.now)).paths context.now id.now)) }
+        ensures refused { IfErr result (OnlyReadFault (S.read_faults store.old) (S.read_faults store.new)) }
+        ensures files { S.files store.new ≡ S.files store.old }
+        ensures later { S.read_faults store.old ≤ S.read_faults store.new }
+        ensures other { S.write_faults store.new ≡ S.write_faults store.old }
+    {
+        let base = base_of(alloc, context, id)?;
+        let entry = self.entry_of(alloc, &base)?;
+        entry_from(alloc, store, context, id, self.uses(&base), entry)
+    }
+
+    /// The entry file of a package.
+    fn entry_of(&self, alloc: Global, id: &Id) -> Result<Option<NormPath>, AllocError>
+        ensures { IfOk result (λ path. path ≡ (folder_maps (found_in self.now)).paths id.now) }
     {
         match self.candidate_of(id) {
             Some(candidate) => Ok(Some(candidate.entry.copy(alloc)?)),
             None => Ok(None),
+        }
+    }
+
+    /// What a package uses; None where it isn't there or has no project file.
+    fn uses<'a>(&'a self, id: &Id) -> Option<UsesRef<'a>>
+        ensures { result ≡ (folder_maps (found_in self.now)).graph id.now }
+    {
+        match self.candidate_of(id) {
+            Some(candidate) => candidate_uses(candidate),
+            None => None,
         }
     }
 
@@ -147,18 +165,13 @@ impl FolderEnv {
     }
 }
 
-/// What a package's dependencies say of a name; one without a project file is no context.
-fn dep_of_candidate(
-    alloc: Global,
-    candidate: &Candidate,
-    name: &Name,
-) -> Result<DepAnswer, AllocError>
-    ensures { IfOk result (λ answer. answer ≡ dep_answer name.now candidate.now.deps) }
+fn candidate_uses<'a>(candidate: &'a Candidate) -> Option<UsesRef<'a>>
+    ensures { result ≡ candidate.now.uses }
 {
-    let Some(deps) = &candidate.deps else {
-        return Ok(DepAnswer::NotMine);
-    };
-    dep_among(alloc, deps.items(), name)
+    match &candidate.uses {
+        Some(uses) => Some(uses.lent()),
+        None => None,
+    }
 }
 
 fn add_candidates<S: Store>(

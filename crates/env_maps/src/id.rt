@@ -1,6 +1,6 @@
 //! Identities of packages, and from where an import is asked.
 ghost use Rattle.std.specs.Prelude.{◌≡◌, Some};
-ghost use Rattle.env_maps.specs.Maps.{same_uuid};
+ghost use Rattle.env_maps.specs.Contexts.{same_uuid};
 
 use pkg_world::{Duplicate, Name};
 use std::alloc::{AllocError, Global};
@@ -29,6 +29,8 @@ pub enum Context {
     Top,
     /// From inside a package.
     Package(Id),
+    /// From inside an extension: the identifier and the name of the package that it extends, and its own name.
+    Extension(Uuid, Name, Name),
 }
 
 /// What an environment's graph says of a name from a context (Julia manual, Code Loading).

@@ -1,8 +1,8 @@
 //! Environments: what a project's files, and those of a package folder, make of names.
 #![tactic(auto)]
 
-mod by_name;
 mod candidate;
+mod context;
 mod entry;
 mod environment;
 mod escaping;
@@ -11,7 +11,9 @@ mod id;
 mod library;
 mod parts;
 mod spot;
+mod uses;
 
+pub use context::extension_of;
 pub use environment::ProjectEnv;
 pub use folder_env::FolderEnv;
 pub use id::{Context, DepAnswer, Id};

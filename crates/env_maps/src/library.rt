@@ -7,7 +7,7 @@ ghost use Rattle.env_maps.specs.ByName.{found_in, with_name};
 ghost use Rattle.project_places.specs.Files.{Adds, Loads};
 ghost use Rattle.project_places.specs.Faults.{ReadFaultRose};
 
-use crate::by_name::found_at;
+use extension_rules::found_at;
 use pkg_world::{Duplicate, Listed, Name, Names, NormPath, Store};
 use project_file::Project;
 use project_places::{EnvFault, file_in, path_in, project_at};

@@ -4,10 +4,10 @@ ghost use Rattle.std.specs.Option.{option_and_then};
 ghost use Rattle.pkg_world.specs.Path.{joined};
 ghost use Rattle.project_places.specs.Active.{or_next};
 ghost use Rattle.env_maps.specs.Candidates as spec;
-ghost use Rattle.env_maps.specs.Maps.{source_text};
+ghost use Rattle.entry_files.specs.Entries.{source_text};
 ghost use Rattle.project_places.specs.Faults.{OnlyReadFault};
 
-use crate::entry::source_inside;
+use entry_files::source_inside;
 use pkg_world::{Name, NormPath, Store};
 use project_places::{EnvFault, is_there, path_in};
 use std::alloc::{AllocError, Global};

@@ -1,3 +1,4 @@
+pub mod ExtensionLines
 pub mod Home
 pub mod StanzaPlaces
 pub mod StatusDue

@@ -1,5 +1,5 @@
--- What `status` is due to answer: the project's file, then a line for each dependency, or for each stanza, then the packed
--- registries. (own rule)
+-- What `status` is due to answer: the project's file, then a line for each dependency, or for each stanza, then those of
+-- extensions where they are asked for, then the packed registries. (own rule)
 use Rattle.std.specs.Prelude.{ℕ, Bool, true, false, List, [], ◌∷◌, ◌++◌, codes, Option, Some, None, if◌then◌else◌, Result, Ok}
 use Rattle.std.specs.List.{flat_map}
 use Rattle.std.specs.Str.{bytes_eq}
@@ -14,6 +14,7 @@ use Rattle.manifest_file.specs.Saying.{SaidStanza}
 use Rattle.manifest_file.specs.declared.origin.Origin.{Origin}
 use Rattle.manifest_file.specs.declared.origin.Origin.TheVariants.{Tree, Path as PathOrigin, Repo, Std}
 use Rattle.registry_tables.specs.Registries.{packed}
+use Rattle.home_commands.specs.ExtensionLines.{extension_lines}
 use Rattle.home_commands.specs.Home.{Both, both_in}
 use Rattle.command_answers.specs.declared.status.Status.{Status}
 
@@ -69,11 +70,12 @@ abbrev pub package_lines : Bool → Both → List ℕ
 package_lines true both = flat_map stanza_line both.stanzas
 package_lines false both = flat_map (dep_line both.stanzas) both.deps
 
-abbrev pub status_text : Bool → Both → List Path → List ℕ
-status_text all both paths = project_line both.file ++ (package_lines all both ++ flat_map packed_line paths)
+abbrev pub status_text : Bool → Bool → Both → List Path → List ℕ
+status_text all extensions both paths =
+    project_line both.file ++ (package_lines all both ++ (extension_lines extensions both.stanzas ++ flat_map packed_line paths))
 
-abbrev pub status_of : Files → Place → Bool → Both → Result (List ℕ) Status
-status_of files place all both = Ok (status_text all both (packed files place.depots.items))
+abbrev pub status_of : Files → Place → Bool → Bool → Both → Result (List ℕ) Status
+status_of files place all extensions both = Ok (status_text all extensions both (packed files place.depots.items))
 
-abbrev pub status_due : Files → Place → Bool → Result (List ℕ) Status
-status_due files place all = then_ok (both_in files place) (status_of files place all)
+abbrev pub status_due : Files → Place → Bool → Bool → Result (List ℕ) Status
+status_due files place all extensions = then_ok (both_in files place) (status_of files place all extensions)

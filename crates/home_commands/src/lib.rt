@@ -1,6 +1,7 @@
 //! The commands `status` and `verify`, which answer from the two files of the active project.
 #![tactic(auto)]
 
+mod extension_lines;
 mod home;
 mod stanza_line;
 mod stanza_places;

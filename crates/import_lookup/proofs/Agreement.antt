@@ -1,5 +1,5 @@
 -- What a loaded stack says of the names with which it was loaded is what the files say of them.
-use Rattle.std.proofs.Common.{◌≡◌, ◌≢◌, ℕ, Bool, true, false, ◌||◌, if◌then◌else◌, List, [], ◌∷◌, ◌++◌, Option, Some, None, Ok, Err, refl, sym, ap, ◌∙◌}
+use Rattle.std.proofs.Common.{◌≡◌, ◌≢◌, ℕ, Bool, true, false, ◌||◌, if◌then◌else◌, List, [], ◌∷◌, ◌++◌, Option, Some, None, option_map, Ok, Err, refl, sym, ap, ◌∙◌}
 use Rattle.std.proofs.lemmas.Bool.{false≢true}
 use Rattle.std.proofs.lemmas.Slice.Eq.{bytes_eq-Decides}
 use Rattle.std.specs.Option.{option_and_then}
@@ -8,20 +8,21 @@ use Rattle.pkg_world.specs.Path.{Path}
 use Rattle.pkg_world.specs.Tree.{Files}
 use Rattle.env_maps.specs.declared.id.Id.{Id}
 use Rattle.env_maps.specs.declared.id.Context.{Context}
-use Rattle.env_maps.specs.declared.id.Context.TheVariants.{Top, Package}
+use Rattle.env_maps.specs.declared.id.Context.TheVariants.{Top, Package, Extension}
 use Rattle.project_places.specs.Active.{or_next}
 use Rattle.env_maps.specs.ByName.{by_name, with_name, found_in, given, is_among}
 use Rattle.env_maps.specs.Candidates.{Candidate, candidate, candidate_read, candidates_in, root_at, graph_at, path_at}
 use Rattle.pkg_world.specs.Each.{then_ok, read_each}
 use Rattle.project_places.specs.Files.{Read}
 use Rattle.env_maps.specs.Library.{library_in, library_read, library_uuid}
-use Rattle.env_maps.specs.Maps.{Env, own_or, dep_of, path_with, in_graph}
+use Rattle.env_maps.specs.Contexts.{Uses, extension_deps, in_graph, package_id, extension_of, is_extension, base_of, path_by}
+use Rattle.env_maps.specs.Maps.{Env, own_or, dep_of, graph_of, path_with}
 use Rattle.env_maps.specs.ThreeMaps.{Maps, project_maps, folder_maps}
 use Rattle.import_lookup.specs.declared.loaded.Environment.{Environment}
 use Rattle.import_lookup.specs.declared.loaded.Environment.TheVariants as kinds
 use Rattle.import_lookup.specs.declared.loaded.Loaded.{Loaded}
 use Rattle.import_lookup.specs.declared.loaded.Loaded.TheVariants.{Project, Folder}
-use Rattle.import_lookup.specs.Import.{maps_of, first_of, identity, from_package, import_over, by_identity, by_path, root_in, path_in, dependency_in}
+use Rattle.import_lookup.specs.Import.{maps_of, first_of, identity, from_package, from_extension, import_over, by_identity, by_path, root_in, path_in, path_seen, dependency_in}
 use Rattle.import_lookup.specs.Loading.{loaded_of, all_loaded, loaded_maps, serves}
 
 same_name : (a b : List ℕ) → bytes_eq a b ≡ true → a ≡ b
@@ -141,24 +142,38 @@ root_same files stdlib names library envs loaded name h among =
     (says_same files stdlib names library (λ maps. maps.roots name) (λ env. refl) (λ folder found read. ap (root_at name) (candidates_same files folder names found name among read)))
     h
 
-graph_same : (files : Files) (stdlib : Option Path) (names : List (List ℕ)) (library : List (List ℕ × Option (List ℕ))) (envs : List Environment) (loaded : List Loaded) (id : Id) (name : List ℕ)
+-- what is seen from a context, by what one package uses
+graph_same : (files : Files) (stdlib : Option Path) (names : List (List ℕ)) (library : List (List ℕ × Option (List ℕ))) (envs : List Environment) (loaded : List Loaded) (context : Context) (id : Id) (see : Option Uses → Option (List (List ℕ × List ℕ))) (name : List ℕ)
+    → ((graph : Id → Option Uses) → in_graph graph context ≡ see (graph id))
     → all_loaded files names envs ≡ Ok loaded → is_among id.name names ≡ true
-    → dependency_in (maps_of files stdlib) envs (Package id) name ≡ dependency_in (loaded_maps files library) loaded (Package id) name
-graph_same files stdlib names library envs loaded id name h among =
+    → dependency_in (maps_of files stdlib) envs context name ≡ dependency_in (loaded_maps files library) loaded context name
+graph_same files stdlib names library envs loaded context id see name seen h among =
     ap (option_and_then (dep_of name))
-    (first_of_read (loaded_of files names) (λ env. (maps_of files stdlib env).graph id) (λ l. (loaded_maps files library l).graph id) envs loaded
-    (says_same files stdlib names library (λ maps. maps.graph id) (λ env. refl) (λ folder found read. ap (graph_at id.uuid) (candidates_same files folder names found id.name among read)))
+    (first_of_read (loaded_of files names) (λ env. in_graph (maps_of files stdlib env).graph context) (λ l. in_graph (loaded_maps files library l).graph context) envs loaded
+    (says_same files stdlib names library (λ maps. in_graph maps.graph context) (λ env. refl)
+    (λ folder found read. seen (folder_maps (candidate files folder)).graph ∙ ap (λ c. see (graph_at id.uuid c)) (candidates_same files folder names found id.name among read) ∙ sym (seen (folder_maps (found_in found)).graph)))
     h)
 
-path_same : (files : Files) (stdlib : Option Path) (names : List (List ℕ)) (library : List (List ℕ × Option (List ℕ))) (envs : List Environment) (loaded : List Loaded) (id : Id)
-    → all_loaded files names envs ≡ Ok loaded → library_in files stdlib names ≡ Ok library → is_among id.name names ≡ true
-    → path_in (maps_of files stdlib) envs id ≡ path_in (loaded_maps files library) loaded id
-path_same files stdlib names library envs loaded id h standard among =
-    first_of_read (loaded_of files names) (λ env. (maps_of files stdlib env).paths id) (λ l. (loaded_maps files library l).paths id) envs loaded
-    (says_same files stdlib names library (λ maps. maps.paths id)
-    (λ env. ap (λ uuid. path_with files uuid env id) (library_same files stdlib names library id.name among standard))
-    (λ folder found read. ap (path_at id.uuid) (candidates_same files folder names found id.name among read)))
+path_same : (files : Files) (stdlib : Option Path) (names : List (List ℕ)) (library : List (List ℕ × Option (List ℕ))) (envs : List Environment) (loaded : List Loaded) (context : Context) (id : Id)
+    → all_loaded files names envs ≡ Ok loaded → library_in files stdlib names ≡ Ok library → is_among (base_of context id).name names ≡ true
+    → path_in files (maps_of files stdlib) envs context id ≡ path_in files (loaded_maps files library) loaded context id
+path_same files stdlib names library envs loaded context id h standard among =
+    first_of_read (loaded_of files names) (λ env. path_seen files context id (maps_of files stdlib env)) (λ l. path_seen files context id (loaded_maps files library l)) envs loaded
+    (says_same files stdlib names library (path_seen files context id)
+    (λ env. ap (λ uuid. path_by files context id (graph_of env (base_of context id)) (path_with files uuid env (base_of context id))) (library_same files stdlib names library (base_of context id).name among standard))
+    (λ folder found read. ap (λ c. path_by files context id (graph_at (base_of context id).uuid c) (path_at (base_of context id).uuid c)) (candidates_same files folder names found (base_of context id).name among read)))
     h
+
+-- the package whose files hold an entry is among those that were read
+base_if : (names : List (List ℕ)) (uuid parent : List ℕ) (id : Id) (is : Bool) → is_among parent names ≡ true → is_among id.name names ≡ true
+    → is_among (if is then package_id uuid parent else id).name names ≡ true
+base_if names uuid parent id true served among = served
+base_if names uuid parent id false served among = among
+
+base_among : (names : List (List ℕ)) (context : Context) (id : Id) → serves names context ≡ true → is_among id.name names ≡ true → is_among (base_of context id).name names ≡ true
+base_among names Top id served among = among
+base_among names (Package from) id served among = among
+base_among names (Extension uuid parent extension) id served among = base_if names uuid parent id (is_extension uuid extension id) served among
 
 -- an identity has the name that was asked for
 next_named : {E : Type 0} (says : E → Option Id) (name : List ℕ) (env : E) (id : Id) (here later : Option Id)
@@ -195,7 +210,7 @@ package_named name None id h = let no-way : ⊥ = cc in absurd no-way
 package_named name (Some it) id h = let made : record { uuid = it.uuid; name = name } ≡ id = cc in ap (λ i. i.name) (sym made)
 
 env_named : (files : Files) (stdlib : Option Path) (name : List ℕ) (env : Environment) (id : Id) → (maps_of files stdlib env).roots name ≡ Some id → id.name ≡ name
-env_named files stdlib name (kinds.Project env) id h = own_named name env.own (dep_of name env.deps) id (dep_named name env.deps id) h
+env_named files stdlib name (kinds.Project env) id h = own_named name env.own (dep_of name env.uses.deps) id (dep_named name env.uses.deps id) h
 env_named files stdlib name (kinds.Folder folder) id h = package_named name (candidate files folder name) id h
 
 dependency_named : (name : List ℕ) (found : Option (List (List ℕ × List ℕ))) (id : Id) → option_and_then (dep_of name) found ≡ Some id → id.name ≡ name
@@ -216,13 +231,17 @@ identity_named : (files : Files) (stdlib : Option Path) (envs : List Environment
 identity_named files stdlib envs Top name id h = root_named files stdlib envs name id h
 identity_named files stdlib envs (Package from) name id h =
     own_next name from id (from_package (maps_of files stdlib) envs from name from.uuid) (bytes_eq from.name name) refl (from_named files stdlib envs from name from.uuid id) h
+identity_named files stdlib envs (Extension uuid parent extension) name id h =
+    own_next name (extension_of uuid extension) id (dependency_in (maps_of files stdlib) envs (Extension uuid parent extension) name) (bytes_eq extension name) refl
+    (dependency_named name (first_of (λ env. in_graph (maps_of files stdlib env).graph (Extension uuid parent extension)) envs) id) h
 
 -- the identity of a name is that of the loaded stack
 from_same : (files : Files) (stdlib : Option Path) (names : List (List ℕ)) (library : List (List ℕ × Option (List ℕ))) (envs : List Environment) (loaded : List Loaded) (from : Id) (name : List ℕ) (uuid : Option (List ℕ))
     → all_loaded files names envs ≡ Ok loaded → is_among from.name names ≡ true → is_among name names ≡ true
     → from_package (maps_of files stdlib) envs from name uuid ≡ from_package (loaded_maps files library) loaded from name uuid
 from_same files stdlib names library envs loaded from name None h served among = root_same files stdlib names library envs loaded name h among
-from_same files stdlib names library envs loaded from name (Some uuid) h served among = graph_same files stdlib names library envs loaded from name h served
+from_same files stdlib names library envs loaded from name (Some uuid) h served among =
+    graph_same files stdlib names library envs loaded (Package from) from (option_map (λ uses. uses.deps)) name (λ graph. refl) h served
 
 identity_same : (files : Files) (stdlib : Option Path) (names : List (List ℕ)) (library : List (List ℕ × Option (List ℕ))) (envs : List Environment) (loaded : List Loaded) (context : Context) (name : List ℕ)
     → all_loaded files names envs ≡ Ok loaded → serves names context ≡ true → is_among name names ≡ true
@@ -230,18 +249,21 @@ identity_same : (files : Files) (stdlib : Option Path) (names : List (List ℕ))
 identity_same files stdlib names library envs loaded Top name h served among = root_same files stdlib names library envs loaded name h among
 identity_same files stdlib names library envs loaded (Package from) name h served among =
     ap (λ other. if bytes_eq from.name name then Some from else other) (from_same files stdlib names library envs loaded from name from.uuid h served among)
+identity_same files stdlib names library envs loaded (Extension uuid parent extension) name h served among =
+    ap (λ other. if bytes_eq extension name then Some (extension_of uuid extension) else other)
+    (graph_same files stdlib names library envs loaded (Extension uuid parent extension) (package_id uuid parent) (option_and_then (extension_deps uuid parent extension)) name (λ graph. refl) h served)
 
-identified_same : (files : Files) (stdlib : Option Path) (names : List (List ℕ)) (library : List (List ℕ × Option (List ℕ))) (envs : List Environment) (loaded : List Loaded) (name : List ℕ) (found : Option Id)
-    → ((id : Id) → found ≡ Some id → id.name ≡ name) → all_loaded files names envs ≡ Ok loaded → library_in files stdlib names ≡ Ok library → is_among name names ≡ true
-    → by_identity files (maps_of files stdlib) envs found ≡ by_identity files (loaded_maps files library) loaded found
-identified_same files stdlib names library envs loaded name None is h standard among = refl
-identified_same files stdlib names library envs loaded name (Some id) is h standard among =
-    ap (by_path files id) (path_same files stdlib names library envs loaded id h standard (ap (λ n. is_among n names) (is id refl) ∙ among))
+identified_same : (files : Files) (stdlib : Option Path) (names : List (List ℕ)) (library : List (List ℕ × Option (List ℕ))) (envs : List Environment) (loaded : List Loaded) (context : Context) (name : List ℕ) (found : Option Id)
+    → ((id : Id) → found ≡ Some id → id.name ≡ name) → all_loaded files names envs ≡ Ok loaded → library_in files stdlib names ≡ Ok library → serves names context ≡ true → is_among name names ≡ true
+    → by_identity files (maps_of files stdlib) envs context found ≡ by_identity files (loaded_maps files library) loaded context found
+identified_same files stdlib names library envs loaded context name None is h standard served among = refl
+identified_same files stdlib names library envs loaded context name (Some id) is h standard served among =
+    ap (by_path files id) (path_same files stdlib names library envs loaded context id h standard (base_among names context id served (ap (λ n. is_among n names) (is id refl) ∙ among)))
 
 -- the import over the files and over all names is that of the loaded stack
 pub import_same : (files : Files) (stdlib : Option Path) (names : List (List ℕ)) (library : List (List ℕ × Option (List ℕ))) (envs : List Environment) (loaded : List Loaded) (context : Context) (name : List ℕ)
     → all_loaded files names envs ≡ Ok loaded → library_in files stdlib names ≡ Ok library → serves names context ≡ true → is_among name names ≡ true
     → import_over files (maps_of files stdlib) envs context name ≡ import_over files (loaded_maps files library) loaded context name
 import_same files stdlib names library envs loaded context name h standard served among =
-    identified_same files stdlib names library envs loaded name (identity (maps_of files stdlib) envs context name) (identity_named files stdlib envs context name) h standard among
-    ∙ ap (by_identity files (loaded_maps files library) loaded) (identity_same files stdlib names library envs loaded context name h served among)
+    identified_same files stdlib names library envs loaded context name (identity (maps_of files stdlib) envs context name) (identity_named files stdlib envs context name) h standard served among
+    ∙ ap (by_identity files (loaded_maps files library) loaded context) (identity_same files stdlib names library envs loaded context name h served among)

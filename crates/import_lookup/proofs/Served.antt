@@ -3,7 +3,7 @@ use Rattle.std.proofs.Common.{◌≡◌, ℕ, Bool, true, false, ◌||◌, if◌
 use Rattle.std.proofs.lemmas.Slice.Eq.{bytes_eq-Decides}
 use Rattle.std.specs.Str.{bytes_eq}
 use Rattle.env_maps.specs.declared.id.Context.{Context}
-use Rattle.env_maps.specs.declared.id.Context.TheVariants.{Top, Package}
+use Rattle.env_maps.specs.declared.id.Context.TheVariants.{Top, Package, Extension}
 use Rattle.env_maps.specs.ByName.{is_among}
 use Rattle.import_lookup.specs.Loading.{names_of, serves}
 
@@ -31,7 +31,9 @@ had from name false = second name from
 pub names_serve : (context : Context) (name : List ℕ) → serves (names_of context name) context ≡ true
 names_serve Top name = refl
 names_serve (Package id) name = served id.name name (bytes_eq id.name name) refl
+names_serve (Extension uuid parent extension) name = served parent name (bytes_eq parent name) refl
 
 pub names_have : (context : Context) (name : List ℕ) → is_among name (names_of context name) ≡ true
 names_have Top name = first name []
 names_have (Package id) name = had id.name name (bytes_eq id.name name)
+names_have (Extension uuid parent extension) name = had parent name (bytes_eq parent name)

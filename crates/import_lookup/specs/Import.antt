@@ -6,9 +6,10 @@ use Rattle.pkg_world.specs.Path.{Path}
 use Rattle.pkg_world.specs.Tree.{Files, holds, is_file}
 use Rattle.env_maps.specs.declared.id.Id.{Id}
 use Rattle.env_maps.specs.declared.id.Context.{Context}
-use Rattle.env_maps.specs.declared.id.Context.TheVariants.{Top, Package}
+use Rattle.env_maps.specs.declared.id.Context.TheVariants.{Top, Package, Extension}
 use Rattle.project_places.specs.Active.{or_next}
-use Rattle.env_maps.specs.Maps.{dep_of, in_graph}
+use Rattle.env_maps.specs.Contexts.{in_graph, extension_of, path_from}
+use Rattle.env_maps.specs.Maps.{dep_of}
 use Rattle.env_maps.specs.ThreeMaps.{Maps, project_maps, folder_maps}
 use Rattle.env_maps.specs.Candidates.{candidate}
 use Rattle.env_maps.specs.Library.{library_uuid}
@@ -35,29 +36,39 @@ root_in maps stack name = first_of (λ env. (maps env).roots name) stack
 abbrev pub dependency_in : {E : Type 0} → (E → Maps) → List E → Context → List ℕ → Option Id
 dependency_in maps stack context name = option_and_then (dep_of name) (first_of (λ env. in_graph (maps env).graph context) stack)
 
--- the entry path of an identity
-abbrev pub path_in : {E : Type 0} → (E → Maps) → List E → Id → Option Path
-path_in maps stack id = first_of (λ env. (maps env).paths id) stack
+-- the entry path that an environment has for an identity, as it is seen from a context
+abbrev pub path_seen : Files → Context → Id → Maps → Option Path
+path_seen files context id maps = path_from files maps.graph maps.paths context id
+
+-- the entry path of an identity, as it is seen from a context: the first environment that has one decides
+abbrev pub path_in : {E : Type 0} → Files → (E → Maps) → List E → Context → Id → Option Path
+path_in files maps stack context id = first_of (λ env. path_seen files context id (maps env)) stack
 
 -- from a package without identifier as from the top level; else what its dependencies say, or nothing
 abbrev pub from_package : {E : Type 0} → (E → Maps) → List E → Id → List ℕ → Option (List ℕ) → Option Id
 from_package maps stack id name None = root_in maps stack name
 from_package maps stack id name (Some uuid) = dependency_in maps stack (Package id) name
 
+-- an extension's own name is the extension; else what its context sees, or nothing
+abbrev pub from_extension : {E : Type 0} → (E → Maps) → List E → List ℕ → List ℕ → List ℕ → List ℕ → Option Id
+from_extension maps stack uuid parent extension name =
+    if bytes_eq extension name then Some (extension_of uuid extension) else dependency_in maps stack (Extension uuid parent extension) name
+
 -- the identity of a name from a context; the context's own name is the context itself
 abbrev pub identity : {E : Type 0} → (E → Maps) → List E → Context → List ℕ → Option Id
 identity maps stack Top name = root_in maps stack name
 identity maps stack (Package id) name = if bytes_eq id.name name then Some id else from_package maps stack id name id.uuid
+identity maps stack (Extension uuid parent extension) name = from_extension maps stack uuid parent extension name
 
 -- an identity is found where its path is a file
 abbrev pub by_path : Files → Id → Option Path → ImportAnswer
 by_path files id None = NoSource id
 by_path files id (Some path) = if is_file (holds path files) then Found id path else NoSource id
 
-abbrev pub by_identity : {E : Type 0} → Files → (E → Maps) → List E → Option Id → ImportAnswer
-by_identity files maps stack None = NoIdentity
-by_identity files maps stack (Some id) = by_path files id (path_in maps stack id)
+abbrev pub by_identity : {E : Type 0} → Files → (E → Maps) → List E → Context → Option Id → ImportAnswer
+by_identity files maps stack context None = NoIdentity
+by_identity files maps stack context (Some id) = by_path files id (path_in files maps stack context id)
 
 -- the answer of an import over environments with these maps
 abbrev pub import_over : {E : Type 0} → Files → (E → Maps) → List E → Context → List ℕ → ImportAnswer
-import_over files maps stack context name = by_identity files maps stack (identity maps stack context name)
+import_over files maps stack context name = by_identity files maps stack context (identity maps stack context name)

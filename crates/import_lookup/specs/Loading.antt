@@ -6,13 +6,14 @@ use Rattle.pkg_world.specs.declared.place.Place.{Place}
 use Rattle.pkg_world.specs.Path.{Path}
 use Rattle.pkg_world.specs.Tree.{Files}
 use Rattle.env_maps.specs.declared.id.Context.{Context}
-use Rattle.env_maps.specs.declared.id.Context.TheVariants.{Top, Package}
+use Rattle.env_maps.specs.declared.id.Context.TheVariants.{Top, Package, Extension}
 use Rattle.env_maps.specs.ByName.{found_in, is_among}
 use Rattle.env_maps.specs.declared.id.Id.{Id}
 use Rattle.env_maps.specs.Candidates.{candidates_in, root_at, graph_at, path_at}
 use Rattle.pkg_world.specs.Each.{then_ok, read_each}
 use Rattle.project_places.specs.Files.{Read}
 use Rattle.env_maps.specs.Library.{library_in}
+use Rattle.env_maps.specs.Contexts.{Uses}
 use Rattle.env_maps.specs.Maps.{root_of, graph_of, path_with}
 use Rattle.env_maps.specs.ThreeMaps.{Maps}
 use Rattle.import_lookup.specs.declared.answer.ImportAnswer.{ImportAnswer}
@@ -52,7 +53,7 @@ abbrev pub loaded_root : Loaded → List ℕ → Option Id
 loaded_root (Project env) name = root_of env name
 loaded_root (Folder found) name = root_at name (found_in found name)
 
-abbrev pub loaded_graph : Loaded → Id → Option (List (List ℕ × List ℕ))
+abbrev pub loaded_graph : Loaded → Id → Option Uses
 loaded_graph (Project env) id = graph_of env id
 loaded_graph (Folder found) id = graph_at id.uuid (found_in found id.name)
 
@@ -72,6 +73,7 @@ kept_maps env = record { roots = loaded_root env; graph = loaded_graph env; path
 abbrev pub serves : List (List ℕ) → Context → Bool
 serves names Top = true
 serves names (Package id) = is_among id.name names
+serves names (Extension uuid parent extension) = is_among parent names
 
 abbrev pub answered : Files → Place → List (List ℕ) → Context → List ℕ → List Environment → Read ImportAnswer
 answered files place names context name envs =
@@ -82,7 +84,12 @@ answered files place names context name envs =
 abbrev pub import_in : Files → Place → List (List ℕ) → Context → List ℕ → Read ImportAnswer
 import_in files place names context name = then_ok (environments files place) (answered files place names context name)
 
--- the names for which the files are read: the context's and the imported one, once where they are the same
+-- a context's name and the imported one, once where they are the same
+abbrev pub both_names : List ℕ → List ℕ → List (List ℕ)
+both_names from name = if bytes_eq from name then name ∷ [] else from ∷ name ∷ []
+
+-- the names for which the files are read: the context's, which for an extension is its parent's, and the imported one
 abbrev pub names_of : Context → List ℕ → List (List ℕ)
 names_of Top name = name ∷ []
-names_of (Package id) name = if bytes_eq id.name name then name ∷ [] else id.name ∷ name ∷ []
+names_of (Package id) name = both_names id.name name
+names_of (Extension uuid parent extension) name = both_names parent name

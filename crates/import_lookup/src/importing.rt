@@ -8,17 +8,18 @@ ghost use Rattle.import_lookup.specs.Loading.{kept_maps, loaded_maps, import_in,
 
 use crate::answer::ImportAnswer;
 use crate::stack::Stack;
-use env_maps::{Context, DepAnswer, EnvFault, Id};
+use env_maps::{Context, DepAnswer, EnvFault, Id, extension_of};
 use pkg_world::{Duplicate, KindAnswer, Name, NormPath, Store};
 use std::alloc::{AllocError, Global};
 
 /// The import of a name from a context, over a stack that was loaded with this name and with the context's. (Julia manual,
 /// Code Loading.)
 ///
-/// 1. The context's own name is the context itself.
+/// 1. The context's own name is the context itself; an extension's is the extension.
 /// 2. From the top level, and from a package without identifier, the first environment that gives the name an identity
 ///    decides.
-/// 3. From any other package the first environment that has the package decides: its dependency of that name, or none.
+/// 3. From any other package, and from an extension, the first environment that has it decides: its dependency of that
+///    name, or none. An extension has the package that it extends, its triggers and that package's dependencies.
 /// 4. The first environment that has a path for the identity decides. It is found where that path is a file.
 ///
 /// Errors: ReadFault, where the store can't tell what is there; want of memory.
@@ -53,7 +54,7 @@ fn imported<S: Store>(
     ensures other { S.write_faults store.new ≡ S.write_faults store.old }
 {
     match identity(alloc, stack, context, name) {
-        Ok(Some(id)) => by_identity(alloc, stack, store, id),
+        Ok(Some(id)) => by_identity(alloc, stack, store, context, id),
         Ok(None) => Ok(ImportAnswer::NoIdentity),
         Err(_) => Err(EnvFault::Memory),
     }
@@ -78,6 +79,12 @@ fn identity(
                 Some(_) => dependency_in(alloc, stack, context, name),
                 None => root_in(alloc, stack, name),
             }
+        }
+        Context::Extension(uuid, _, extension) => {
+            if extension.as_str() == name.as_str() {
+                return Ok(Some(extension_of(alloc, uuid, extension)?));
+            }
+            dependency_in(alloc, stack, context, name)
         }
     }
 }
@@ -118,15 +125,16 @@ fn by_identity<S: Store>(
     alloc: Global,
     stack: &Stack,
     store: &mut S,
+    context: &Context,
     id: Id,
 ) -> Result<ImportAnswer, EnvFault>
-    ensures told { IfSome (S.files store.old) (λ all. IfOk result (λ answer. answer ≡ spec.by_identity all (loaded_maps all stack.now.library) stack.now.envs (Some id))) }
+    ensures told { IfSome (S.files store.old) (λ all. IfOk result (λ answer. answer ≡ spec.by_identity all (loaded_maps all stack.now.library) stack.now.envs context.now (Some id))) }
     ensures refused { IfErr result (OnlyReadFault (S.read_faults store.old) (S.read_faults store.new)) }
     ensures files { S.files store.new ≡ S.files store.old }
     ensures later { S.read_faults store.old ≤ S.read_faults store.new }
     ensures other { S.write_faults store.new ≡ S.write_faults store.old }
 {
-    match path_in(alloc, stack, store, &id) {
+    match path_in(alloc, stack, store, context, &id) {
         Ok(Some(path)) => by_path(alloc, store, id, path),
         Ok(None) => Ok(ImportAnswer::NoSource(id)),
         Err(fault) => Err(fault),
@@ -138,16 +146,17 @@ fn path_in<S: Store>(
     alloc: Global,
     stack: &Stack,
     store: &mut S,
+    context: &Context,
     id: &Id,
 ) -> Result<Option<NormPath>, EnvFault>
-    ensures path { IfSome (S.files store.old) (λ all. IfOk result (λ path. path ≡ spec.path_in (loaded_maps all stack.now.library) stack.now.envs id.now)) }
+    ensures path { IfSome (S.files store.old) (λ all. IfOk result (λ path. path ≡ spec.path_in all (loaded_maps all stack.now.library) stack.now.envs context.now id.now)) }
     ensures refused { IfErr result (OnlyReadFault (S.read_faults store.old) (S.read_faults store.new)) }
     ensures files { S.files store.new ≡ S.files store.old }
     ensures later { S.read_faults store.old ≤ S.read_faults store.new }
     ensures other { S.write_faults store.new ≡ S.write_faults store.old }
 {
     'envs: for env in stack.envs() {
-        match env.entry(alloc, store, stack.library(), id) {
+        match env.entry(alloc, store, stack.library(), context, id) {
             Ok(Some(path)) => return Ok(Some(path)),
             Ok(None) => {}
             Err(fault) => return Err(fault),

@@ -1,10 +1,10 @@
 //! The environments of a stack.
 ghost use Rattle.std.specs.Prelude.{◌≡◌, ◌≤◌, Ok, IfSome, IfOk, IfErr, MatchResult};
-ghost use Rattle.env_maps.specs.ByName.{found_in};
-ghost use Rattle.env_maps.specs.Candidates.{path_at};
 ghost use Rattle.project_places.specs.Files.{Adds, Refuses};
 ghost use Rattle.project_places.specs.Faults.{OnlyReadFault, ReadFaultRose};
-ghost use Rattle.env_maps.specs.Maps.{dep_answer, in_graph};
+ghost use Rattle.env_maps.specs.Contexts.{in_graph};
+ghost use Rattle.env_maps.specs.Maps.{dep_answer};
+ghost use Rattle.import_lookup.specs.Import.{path_seen};
 ghost use Rattle.import_lookup.specs.Loading as spec;
 
 use env_maps::{Context, DepAnswer, EnvFault, FolderEnv, Id, Library, ProjectEnv};
@@ -52,7 +52,7 @@ impl Loaded {
         }
     }
 
-    /// The entry path of an identity.
+    /// The entry path of an identity, as it is seen from a context.
     ///
     /// Errors: ReadFault, where the store can't tell what is there; want of memory.
     pub(crate) fn entry<S: Store>(
@@ -60,36 +60,19 @@ impl Loaded {
         alloc: Global,
         store: &mut S,
         library: &Library,
+        context: &Context,
         id: &Id,
     ) -> Result<Option<NormPath>, EnvFault>
-        ensures path { IfSome (S.files store.old) (λ all. IfOk result (λ path. path ≡ spec.loaded_path all library.now self.now id.now)) }
+        ensures path { IfSome (S.files store.old) (λ all. IfOk result (λ path. path ≡ path_seen all context.now id.now (spec.loaded_maps all library.now self.now))) }
         ensures refused { IfErr result (OnlyReadFault (S.read_faults store.old) (S.read_faults store.new)) }
         ensures files { S.files store.new ≡ S.files store.old }
         ensures later { S.read_faults store.old ≤ S.read_faults store.new }
         ensures other { S.write_faults store.new ≡ S.write_faults store.old }
     {
         match self {
-            Loaded::Project(env) => env.entry_by(alloc, store, &library.uuid(&id.name), id),
-            Loaded::Folder(env) => folder_entry(alloc, store, env, id),
+            Loaded::Project(env) => env.entry_by(alloc, store, library, context, id),
+            Loaded::Folder(env) => env.entry(alloc, store, context, id),
         }
-    }
-}
-
-fn folder_entry<S: Store>(
-    alloc: Global,
-    store: &mut S,
-    env: &FolderEnv,
-    id: &Id,
-) -> Result<Option<NormPath>, EnvFault>
-    ensures path { IfOk result (λ path. path ≡ path_at id.now.uuid (found_in env.now id.now.name)) }
-    ensures refused { IfErr result (OnlyReadFault (S.read_faults store.old) (S.read_faults store.new)) }
-    ensures files { S.files store.new ≡ S.files store.old }
-    ensures later { S.read_faults store.old ≤ S.read_faults store.new }
-    ensures other { S.write_faults store.new ≡ S.write_faults store.old }
-{
-    match env.entry(alloc, store, &Context::Top, id) {
-        Ok(path) => Ok(path),
-        Err(_) => Err(EnvFault::Memory),
     }
 }
 

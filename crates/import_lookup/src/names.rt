@@ -3,11 +3,12 @@ ghost use Rattle.std.specs.Prelude.{◌≡◌, ◌∷◌, [], true, IfOk};
 ghost use Rattle.env_maps.specs.ByName.{is_among};
 ghost use Rattle.import_lookup.specs.Loading as spec;
 
-use env_maps::{Context, Id};
+use env_maps::Context;
 use pkg_world::{Duplicate, Listed, Name, Names};
 use std::alloc::{AllocError, Global};
 
-/// The names for which an import reads files: the context's and then the imported one, once where they are the same. A
+/// The names for which an import reads files: the context's, which for an extension is that of the package that it extends,
+/// and then the imported one, once where they are the same. A
 /// stack that is loaded with them serves the import. The one error is want of memory.
 #[tactic(auto, using(crate::proofs::Served::names_serve, crate::proofs::Served::names_have))]
 pub fn names_of(alloc: Global, context: &Context, name: &Name) -> Result<Names, AllocError>
@@ -17,17 +18,18 @@ pub fn names_of(alloc: Global, context: &Context, name: &Name) -> Result<Names, 
 {
     match context {
         Context::Top => only(alloc, name),
-        Context::Package(id) => with_package(alloc, id, name),
+        Context::Package(id) => both(alloc, &id.name, name),
+        Context::Extension(_, parent, _) => both(alloc, parent, name),
     }
 }
 
-fn with_package(alloc: Global, id: &Id, name: &Name) -> Result<Names, AllocError>
-    ensures { IfOk result (λ names. names.items ≡ spec.names_of (Context.Package id.now) name.now) }
+fn both(alloc: Global, from: &Name, name: &Name) -> Result<Names, AllocError>
+    ensures { IfOk result (λ names. names.items ≡ spec.both_names from.now name.now) }
 {
-    if id.name.as_str() == name.as_str() {
+    if from.as_str() == name.as_str() {
         return only(alloc, name);
     }
-    let mut names = only(alloc, &id.name)?;
+    let mut names = only(alloc, from)?;
     names.push(name.copy(alloc)?)?;
     Ok(names)
 }

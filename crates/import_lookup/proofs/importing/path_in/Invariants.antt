@@ -9,4 +9,4 @@ invariant-envs g l =
     (g.S.Store.files l.store ≡ g.S.Store.files l.initial.store) ×
     (g.S.Store.read_faults l.initial.store ≤ g.S.Store.read_faults l.store) ×
     (g.S.Store.write_faults l.store ≡ g.S.Store.write_faults l.initial.store) ×
-    IfSome (g.S.Store.files l.initial.store) (λ all. path_in (loaded_maps all l.stack.library) l.stack.envs l.id ≡ path_in (loaded_maps all l.stack.library) (drop l.env-index l.stack.envs) l.id)
+    IfSome (g.S.Store.files l.initial.store) (λ all. path_in all (loaded_maps all l.stack.library) l.stack.envs l.context l.id ≡ path_in all (loaded_maps all l.stack.library) (drop l.env-index l.stack.envs) l.context l.id)
