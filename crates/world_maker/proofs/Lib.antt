@@ -1,0 +1,4 @@
+pub mod Orbit
+pub mod Once
+pub mod Members
+pub mod Apart
