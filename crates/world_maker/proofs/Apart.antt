@@ -1,11 +1,14 @@
 -- Files that part, and the paths above them.
-use Rattle.std.proofs.Common.{◌≡◌, ℕ, zero, suc, ◌+◌, ◌<◌, ◌≤◌, ◌⊎◌, inl, inr, List, [], ◌∷◌, ◌++◌, length, take, Ok, refl, sym, ap, ◌∙◌, subst, arith}
+use Rattle.std.proofs.Common.{◌≡◌, ℕ, zero, suc, ◌+◌, ◌<◌, ◌≤◌, ◌⊎◌, inl, inr, List, [], ◌∷◌, ◌++◌, length, map, take, get_or, Option, Some, None, IsSome, Ok, refl, sym, ap, ◌∙◌, subst, arith}
+use Rattle.std.proofs.Math.ListN.{get_or-map}
+use Rattle.std.proofs.lemmas.List.{length-map}
 use Rattle.std.specs.List.{AllByRecursion}
 use Rattle.pkg_world.specs.Path.{Path}
-use Rattle.pkg_world.specs.Tree.{Files, bytes, a_folder, nothing, holds}
-use Rattle.pkg_world.specs.Writing.{SetsOnePath, IsBlocked}
+use Rattle.pkg_world.specs.Tree.{Files, no_files, bytes, a_folder, nothing, holds, a_file, with_leaf}
+use Rattle.pkg_world.specs.Writing.{SetsOnePath, IsBlocked, BlockedLaw}
 use Rattle.toml_view.specs.Document.{viewed}
-use Rattle.world_maker.specs.Laid.{IsLaid, IsApartFrom, HasExactly, DoPart}
+use Rattle.world_maker.specs.declared.files.TableFile.{TableFile}
+use Rattle.world_maker.specs.Laid.{file_of, IsLaid, IsApartFrom, HasExactly, DoPart, ArePartedFrom, AreParted, IsPlain, ArePlain, IsFree}
 use Rattle.world_maker.specs.World.{Tabled}
 
 first_same : {a b : List ℕ} {p q : Path} → a ∷ p ≡ b ∷ q → a ≡ b
@@ -133,3 +136,57 @@ not_blocked new before files deep parts has (inr (suc k, inside, (b, e))) = stan
     stands : (holds (take (suc k) new.path) before ≡ a_folder) ⊎ AllByRecursion (IsApartFrom (take (suc k) new.path)) files → ⊥
     stands (inl folder) = no_file (sym folder ∙ e)
     stands (inr apart) = not_nothing (sym (has.nothing_else (take (suc k) new.path) long apart) ∙ e)
+
+-- ---- all files, one after another
+
+some_of : {X : Type 0} (o : Option X) → (o ≡ None → ⊥) → IsSome o
+some_of None none = absurd (none refl)
+some_of (Some x) none = refl
+
+pub free : BlockedLaw → (new : Tabled) (before : Files) (files : List Tabled) → 0 < length new.path → AllByRecursion (λ file. DoPart file.path new.path) files → HasExactly files before → IsFree new.path before
+free law new before files deep parts has text =
+    some_of (with_leaf (a_file text) new.path before) (λ e. not_blocked new before files deep parts has ((law new.path text before).0 e))
+
+-- a file parts from those before it
+pub parted_at : (files : List Tabled) (i : ℕ) (d : Tabled) → AreParted files → i < length files → AllByRecursion (λ file. DoPart file.path (get_or files i d).path) (take i files)
+parted_at [] i d parted inside = absurd (omega (arith, inside))
+parted_at (file ∷ files) zero d parted inside = tt
+parted_at (file ∷ files) (suc i) d parted inside =
+    let within : i < length files = omega (arith, inside) in
+    (from_all files i parted.1 within, parted_at files i d parted.2 within)
+  where
+    from_all : (files : List Tabled) (i : ℕ) → ArePartedFrom file files → i < length files → DoPart file.path (get_or files i d).path
+    from_all [] i parts inside = absurd (omega (arith, inside))
+    from_all (other ∷ files) zero parts inside = parts.0
+    from_all (other ∷ files) (suc i) parts inside = from_all files i parts.1 (omega (arith, inside))
+
+pub deep_at : (files : List Tabled) (i : ℕ) (d : Tabled) → AreParted files → i < length files → 0 < length (get_or files i d).path
+deep_at [] i d parted inside = absurd (omega (arith, inside))
+deep_at (file ∷ files) zero d parted inside = parted.0
+deep_at (file ∷ files) (suc i) d parted inside = deep_at files i d parted.2 (omega (arith, inside))
+
+pub plain_at : (files : List Tabled) (i : ℕ) (d : Tabled) → ArePlain files → i < length files → IsPlain (get_or files i d).members
+plain_at [] i d plain inside = absurd (omega (arith, inside))
+plain_at (file ∷ files) zero d plain inside = plain.0
+plain_at (file ∷ files) (suc i) d plain inside = plain_at files i d plain.1 (omega (arith, inside))
+
+-- a new store has nothing
+pub none_yet : HasExactly [] no_files
+none_yet = record { each = tt; nothing_else = λ path deep apart. nowhere path deep }
+  where
+    nowhere : (path : Path) → 0 < length path → holds path no_files ≡ nothing
+    nowhere [] deep = absurd (omega (arith, deep))
+    nowhere (x ∷ path) deep = refl
+
+-- ---- the files of the code
+
+pub mapped_at : (xs : List TableFile) (i : ℕ) (x : TableFile) → x ≡ get_or xs i x → get_or (map file_of xs) i (file_of x) ≡ file_of x
+mapped_at xs i x is = get_or-map file_of xs i x ∙ sym (ap file_of is)
+
+pub mapped_inside : (xs : List TableFile) (i : ℕ) → i < length xs → i < length (map file_of xs)
+mapped_inside xs i inside = subst (λ n. i < n) (sym (length-map xs file_of)) inside
+
+pub all_mapped : (xs : List TableFile) (i : ℕ) → i ≤ length xs → length xs ≤ i → i ≡ length (map file_of xs)
+all_mapped xs i below above =
+    let whole : i ≡ length xs = omega (arith, below, above) in
+    whole ∙ sym (length-map xs file_of)

@@ -38,9 +38,10 @@ DoPart (a ∷ p) (b ∷ q) = (a ≡ b → ⊥) ⊎ ((a ≡ b) × DoPart p q)
 abbrev pub ArePartedFrom : Tabled → List Tabled → Type 0
 ArePartedFrom file files = AllByRecursion (λ other. DoPart file.path other.path) files
 
+-- none is the root, nor another one's path, nor above it
 abbrev pub AreParted : List Tabled → Type 0
 AreParted [] = Unit {0}
-AreParted (file ∷ files) = ArePartedFrom file files × AreParted files
+AreParted (file ∷ files) = (0 < length file.path) × ArePartedFrom file files × AreParted files
 
 -- a table that nests three deep at most, without a date
 pub record IsPlain (members : Members) : Type 0 where

@@ -27,11 +27,7 @@ impl Draws {
 }
 
 /// For each package, the version whose numbers meet every range on it.
-pub(crate) fn starts(
-    alloc: Global,
-    draws: &mut Draws,
-    count: u64,
-) -> Result<Vec<u64>, AllocError>
+pub(crate) fn starts(alloc: Global, draws: &mut Draws, count: u64) -> Result<Vec<u64>, AllocError>
     ensures drawn { IfOk result (λ starts. starts.items ≡ starts_from draws.old.state count) }
     ensures next { IfOk result (λ _. draws.new.state ≡ state draws.old.state count) }
 {

@@ -1,7 +1,10 @@
 //! The files of a made world, each with its table.
-ghost use Rattle.std.specs.Prelude.{◌≡◌, ◌∷◌, ◌++◌, ◌*◌, ◌≤◌, ◌^◌, true, [], map, length, IfOk, OnOk};
+ghost use Rattle.std.specs.Prelude.{◌≡◌, ◌∷◌, ◌++◌, ◌*◌, ◌<◌, ◌≤◌, ◌^◌, true, [], map, length, IfOk, OnOk};
+ghost use Rattle.std.specs.List.{AllByRecursion};
 ghost use Rattle.toml.specs.View.{table_view};
 ghost use Rattle.pkg_world.specs.Path.{is_plain};
+ghost use Rattle.world_maker.specs.Draws.{state};
+ghost use Rattle.world_maker.specs.Drawn.{spans_from};
 ghost use Rattle.world_maker.specs.Laid.{file_of};
 ghost use Rattle.world_maker.specs.World as spec;
 
@@ -44,8 +47,10 @@ pub(crate) fn world_files(
     let registry = registry_path(alloc)?;
     let mut files = first_files(alloc, &registry, count)?;
     'packages: for package in 0..count {
-        let spans = spans_of(alloc, &mut draws, &starts, &needs[package as usize])?;
-        push_package(alloc, &mut files, &registry, package, &needs[package as usize], &spans)?;
+        let needs = &needs[package as usize];
+        push_drawn(
+            alloc, &mut files, &mut draws, &registry, &starts, package, needs,
+        )?;
     }
     Ok(files)
 }
@@ -59,18 +64,26 @@ fn registry_path(alloc: Global) -> Result<NormPath, AllocError>
 }
 
 /// The project's file, and that of the registry.
-fn first_files(
-    alloc: Global,
-    registry: &NormPath,
-    count: u64,
-) -> Result<Vec<TableFile>, AllocError>
+fn first_files(alloc: Global, registry: &NormPath, count: u64) -> Result<Vec<TableFile>, AllocError>
     requires { registry.now ≡ spec.registry }
     ensures { IfOk result (λ files. map file_of files.items ≡ spec.first_files count) }
 {
     let project = NormPath::root(alloc).child(alloc, "p")?;
     let mut files = Vec::new(alloc);
-    push_file(alloc, &mut files, &project, "Project.toml", project_table(alloc, ROOTS)?)?;
-    push_file(alloc, &mut files, registry, "Registry.toml", registry_table(alloc, count)?)?;
+    push_file(
+        alloc,
+        &mut files,
+        &project,
+        "Project.toml",
+        project_table(alloc, ROOTS)?,
+    )?;
+    push_file(
+        alloc,
+        &mut files,
+        registry,
+        "Registry.toml",
+        registry_table(alloc, count)?,
+    )?;
     Ok(files)
 }
 
@@ -90,6 +103,27 @@ fn push_file(
     Ok(())
 }
 
+/// Appends the files of a package, whose ranges are drawn.
+fn push_drawn(
+    alloc: Global,
+    files: &mut Vec<TableFile>,
+    draws: &mut Draws,
+    registry: &NormPath,
+    starts: &[u64],
+    package: u64,
+    needs: &[u64],
+) -> Result<(), AllocError>
+    requires folder { registry.now ≡ spec.registry }
+    requires small { AllByRecursion (λ start. start < 8) starts.now }
+    requires known { AllByRecursion (λ need. need < length starts.now) needs.now }
+    ensures made { OnOk result (map file_of files.new.items ≡ map file_of files.old.items ++ spec.package_files «package» needs.now (spans_from draws.old.state starts.now needs.now)) }
+    ensures next { OnOk result (draws.new.state ≡ state draws.old.state (16 * length needs.now)) }
+{
+    let spans = spans_of(alloc, draws, starts, needs)?;
+    push_package(alloc, files, registry, package, needs, &spans)?;
+    Ok(())
+}
+
 /// Appends the files of a package.
 fn push_package(
     alloc: Global,
@@ -105,8 +139,33 @@ fn push_package(
 {
     let name = name_text(alloc, package)?;
     let folder = registry.child(alloc, name.as_str())?;
-    push_file(alloc, files, &folder, "Package.toml", package_table(alloc, package)?)?;
-    push_file(alloc, files, &folder, "Versions.toml", versions_table(alloc, VERSIONS, package)?)?;
-    push_file(alloc, files, &folder, "Deps.toml", deps_table(alloc, needs)?)?;
-    push_file(alloc, files, &folder, "Compat.toml", compat_table(alloc, VERSIONS, needs, spans)?)
+    push_file(
+        alloc,
+        files,
+        &folder,
+        "Package.toml",
+        package_table(alloc, package)?,
+    )?;
+    push_file(
+        alloc,
+        files,
+        &folder,
+        "Versions.toml",
+        versions_table(alloc, VERSIONS, package)?,
+    )?;
+    push_file(
+        alloc,
+        files,
+        &folder,
+        "Deps.toml",
+        deps_table(alloc, needs)?,
+    )?;
+    push_file(
+        alloc,
+        files,
+        &folder,
+        "Compat.toml",
+        compat_table(alloc, VERSIONS, needs, spans)?,
+    )?;
+    Ok(())
 }

@@ -6,7 +6,7 @@ ghost use Rattle.toml.specs.View.{table_view};
 ghost use Rattle.world_maker.specs.Laid.{file_of, AreParted, ArePlain, IsPlain, IsFree, Lays, HasExactly};
 
 use crate::files::TableFile;
-use pkg_world::{Bytes, SureStore};
+use pkg_world::{Bytes, SureStore, writing_sets_one_path};
 use std::alloc::{AllocError, Global};
 use toml_view::{PrintFault, Table, print_table};
 
@@ -16,6 +16,7 @@ pub(crate) fn lay_all(alloc: Global, files: &[TableFile]) -> Result<SureStore, A
     requires plain { ArePlain (map file_of files.now) }
     ensures { IfOk result (λ store. HasExactly (map file_of files.now) (sure_files store)) }
 {
+    writing_sets_one_path();
     let mut store = SureStore::make(alloc)?;
     'files: for file in files {
         lay(alloc, &mut store, file)?;

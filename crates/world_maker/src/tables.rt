@@ -49,8 +49,18 @@ pub(crate) fn package_table(alloc: Global, package: u64) -> Result<Table, AllocE
     ensures { IfOk result (λ table. table_view table ≡ spec.package_members «package») }
 {
     let mut table = Table::new(alloc);
-    put_text(alloc, &mut table, "name", name_text(alloc, package)?.as_str())?;
-    put_text(alloc, &mut table, "uuid", uuid_text(alloc, package)?.as_str())?;
+    put_text(
+        alloc,
+        &mut table,
+        "name",
+        name_text(alloc, package)?.as_str(),
+    )?;
+    put_text(
+        alloc,
+        &mut table,
+        "uuid",
+        uuid_text(alloc, package)?.as_str(),
+    )?;
     Ok(table)
 }
 
@@ -70,12 +80,7 @@ pub(crate) fn versions_table(
 }
 
 /// Puts a version with its tree.
-fn put_version(
-    alloc: Global,
-    table: &mut Table,
-    package: u64,
-    minor: u64,
-) -> Result<(), AllocError>
+fn put_version(alloc: Global, table: &mut Table, package: u64, minor: u64) -> Result<(), AllocError>
     ensures { OnOk result (table_view table.new ≡ spec.put (spec.version_pair «package» minor).0 (spec.version_pair «package» minor).1 (table_view table.old)) }
 {
     let mut inner = Table::new(alloc);
@@ -161,12 +166,7 @@ fn section_table(
 }
 
 /// Puts a range at a package's name.
-fn put_range(
-    alloc: Global,
-    table: &mut Table,
-    package: u64,
-    span: Span,
-) -> Result<(), AllocError>
+fn put_range(alloc: Global, table: &mut Table, package: u64, span: Span) -> Result<(), AllocError>
     ensures { OnOk result (table_view table.new ≡ spec.put (text.name «package») (string (text.range_text span)) (table_view table.old)) }
 {
     let name = name_text(alloc, package)?;
@@ -182,7 +182,12 @@ pub(crate) fn registry_table(alloc: Global, count: u64) -> Result<Table, AllocEr
     let mut table = Table::new(alloc);
     put_text(alloc, &mut table, "name", "Made")?;
     put_table(alloc, &mut table, "packages", listing)?;
-    put_text(alloc, &mut table, "uuid", "00000000-0000-4000-9000-000000000999")?;
+    put_text(
+        alloc,
+        &mut table,
+        "uuid",
+        "00000000-0000-4000-9000-000000000999",
+    )?;
     Ok(table)
 }
 

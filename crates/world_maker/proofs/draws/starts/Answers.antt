@@ -13,7 +13,7 @@ starts-preserved c =
     let k = c.starts._package in
     record {
       taken = c.in_ok-push.ensures.items ∙ ap (λ xs. xs ++ c.draw.result ∷ []) c.starts.invariant.taken
-      ∙ ap (λ r. starts_from x k ++ r ∷ []) (c.draw.ensures.drawn ∙ ap (λ s. drawn s 8) c.starts.invariant.at) ∙ sym (starts_more x k);
+          ∙ ap (λ r. starts_from x k ++ r ∷ []) (c.draw.ensures.drawn ∙ ap (λ s. drawn s 8) c.starts.invariant.at) ∙ sym (starts_more x k);
       at = c.draw.ensures.next ∙ ap stepped c.starts.invariant.at ∙ sym (state_more x k);
     }
 

@@ -19,10 +19,10 @@ needs-preserved c =
     let here = c.needs.invariant.at in
     record {
       taken = ap (map (λ needs. needs.items)) c.in_ok-push.ensures.items
-      ∙ map-append (λ needs. needs.items) c.needs.all.items (c.in_ok-needs_of.field-0 ∷ [])
-      ∙ ap (λ xs. xs ++ c.in_ok-needs_of.field-0.items ∷ []) c.needs.invariant.taken
-      ∙ ap (λ row. map (needs_at x c.args.count) (range_with_len 0 k) ++ row ∷ []) (c.in_ok-needs_of.ensures.drawn ∙ ap (λ s. needs_from s k c.args.count) here)
-      ∙ sym (map-range_with_len_more (needs_at x c.args.count) 0 k k (omega arith));
+          ∙ map-append (λ needs. needs.items) c.needs.all.items (c.in_ok-needs_of.field-0 ∷ [])
+          ∙ ap (λ xs. xs ++ c.in_ok-needs_of.field-0.items ∷ []) c.needs.invariant.taken
+          ∙ ap (λ row. map (needs_at x c.args.count) (range_with_len 0 k) ++ row ∷ []) (c.in_ok-needs_of.ensures.drawn ∙ ap (λ s. needs_from s k c.args.count) here)
+          ∙ sym (map-range_with_len_more (needs_at x c.args.count) 0 k k (omega arith));
       at = c.in_ok-needs_of.ensures.next ∙ ap (λ s. state s (1 + drawn s 4)) here ∙ state_plus x (asked x k) (1 + drawn (state x (asked x k)) 4) ∙ ap (state x) (sym (asked_more x k));
     }
 

@@ -18,7 +18,7 @@ tries-preserved c =
     let other : c.args.«package» + 1 + c.draw.result ≡ candidate x c.args.«package» j = ap (λ r. c.args.«package» + 1 + r) (c.draw.ensures.drawn ∙ ap (λ s. drawn s 20) c.tries.invariant.at) in
     record {
       taken = c.in_ok-push_need.ensures ∙ ap (λ d. with_need c.args.count d c.tries.needs.items) other
-      ∙ ap (with_need c.args.count (candidate x c.args.«package» j)) c.tries.invariant.taken ∙ sym (candidates_more x c.args.«package» c.args.count j);
+          ∙ ap (with_need c.args.count (candidate x c.args.«package» j)) c.tries.invariant.taken ∙ sym (candidates_more x c.args.«package» c.args.count j);
       at = c.draw.ensures.next ∙ ap stepped c.tries.invariant.at ∙ sym (state_more x (j + 1));
     }
 

@@ -16,8 +16,8 @@ spans-preserved c =
     let f = span_of x c.args.starts.now c.args.needs.now in
     record {
       taken = c.in_ok-push.ensures.items ∙ ap (λ xs. xs ++ c.draw_span.result ∷ []) c.spans.invariant.taken
-      ∙ ap (λ r. map f (range_with_len 0 n) ++ r ∷ []) (c.draw_span.ensures.drawn ∙ ap (λ s. span_at s c.start_of.result) c.spans.invariant.at ∙ ap (span_at (state x (2 * n))) c.start_of.ensures.found)
-      ∙ sym (map-range_with_len_more f 0 n n (omega arith));
+          ∙ ap (λ r. map f (range_with_len 0 n) ++ r ∷ []) (c.draw_span.ensures.drawn ∙ ap (λ s. span_at s c.start_of-start.result) c.spans.invariant.at ∙ ap (span_at (state x (2 * n))) c.start_of-start.ensures.found)
+          ∙ sym (map-range_with_len_more f 0 n n (omega arith));
       at = c.draw_span.ensures.next ∙ ap (λ s. stepped (stepped s)) c.spans.invariant.at ∙ sym (state_two x n);
     }
 

@@ -1,0 +1,8 @@
+use Rattle.std.proofs.Common.{◌≡◌, ◌*◌, ◌++◌, map, length, ap, sym, ◌∙◌}
+use Rattle.world_maker.specs.Laid.{file_of}
+use Rattle.world_maker.specs.World.{package_files}
+use Rattle.world_maker.proofs.Known.{length_spans}
+use Rattle.world_maker.proofs.files.push_drawn.Goals as goal
+
+pub push_package-requires-clause-ranges : goal.push_package-requires-clause-ranges
+push_package-requires-clause-ranges c = ap length (c.deref.ensures.value ∙ c.in_ok-spans.ensures.drawn) ∙ length_spans c.args.draws.now.state c.args.starts.now c.args.needs.now
