@@ -4,8 +4,7 @@ use Rattle.std.proofs.lemmas.Bool.{cases_Bool}
 use Rattle.std.proofs.lemmas.Bool.Decides.{nat_tests}
 use Rattle.std.proofs.lemmas.List.FromFn.{filter_of_map_range_with_len_more}
 use Rattle.std.specs.List.{filter, list_any, range_with_len}
-use Rattle.world_maker.specs.Draws.{drawn, state}
-use Rattle.world_maker.specs.Drawn.{distinct, with_need, candidate, needs_from}
+use Rattle.world_maker.specs.Drawn.{distinct, with_need, candidate}
 
 abbrev has : ℕ → List ℕ → Bool
 has d needs = list_any (λ y. y == d) needs

@@ -1,10 +1,9 @@
 -- The states one after another.
-use Rattle.std.proofs.Common.{◌≡◌, ℕ, zero, suc, ◌+◌, ◌*◌, refl, ap, sym, ◌∙◌, subst, arith}
+use Rattle.std.proofs.Common.{◌≡◌, ℕ, zero, suc, ◌+◌, ◌*◌, refl, ap, ◌∙◌, arith}
 use Rattle.world_maker.specs.Draws.{stepped, drawn, state}
-use Rattle.world_maker.specs.Drawn.{asked, ranged, needs_at, starts_from, all_needs, span_of}
-use Rattle.std.proofs.Common.{length, List, [], ◌∷◌, ◌++◌, map}
+use Rattle.world_maker.specs.Drawn.{asked, ranged, needs_at, starts_from}
+use Rattle.std.proofs.Common.{length, [], ◌∷◌, ◌++◌}
 use Rattle.std.proofs.lemmas.List.FromFn.{map-range_with_len_more}
-use Rattle.std.specs.List.{range_with_len}
 
 pub state_none : (x : ℕ) → state x 0 ≡ x
 unfolding state

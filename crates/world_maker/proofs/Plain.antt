@@ -4,7 +4,7 @@ use Rattle.std.specs.Cmp.Lexicographic.{slice_cmp}
 use Rattle.std.specs.List.{AllByRecursion, fold, flat_map, range_with_len}
 use Rattle.std.specs.Ordering.{match_ordering}
 use Rattle.std.proofs.Math.Nat.{max-le}
-use Rattle.toml.specs.Data.{Data, string, table, Members, no_members, member, depth, members_depth, has_valid_dates, members_have_valid_dates}
+use Rattle.toml.specs.Data.{Data, string, Members, no_members, member, depth, members_depth, has_valid_dates, members_have_valid_dates}
 use Rattle.world_maker.specs.declared.ranges.Span.{Span}
 use Rattle.world_maker.specs.Tables.{put, members_of, table_of, id_pair, version_pair, compat_pair, section_pair, listing_pair, package_members, versions_members, deps_members, compat_members, registry_members, project_members}
 use Rattle.world_maker.specs.Texts.{name, uuid, tree, range_text}

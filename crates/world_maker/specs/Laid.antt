@@ -1,10 +1,10 @@
 -- Which files a store has.
-use Rattle.std.specs.Prelude.{◌≡◌, ℕ, ◌<◌, ◌≤◌, ◌⊎◌, [], ◌∷◌, true, List, length, take, Some, IsSome, Ok, map}
+use Rattle.std.specs.Prelude.{◌≡◌, ℕ, ◌<◌, ◌≤◌, ◌⊎◌, [], ◌∷◌, true, List, length, take, Some, IsSome, Ok}
 use Rattle.std.specs.List.{AllByRecursion}
 use Rattle.toml.specs.Data.{Members, members_depth, members_have_valid_dates}
 use Rattle.toml.specs.View.{table_view}
 use Rattle.pkg_world.specs.Path.{Path}
-use Rattle.pkg_world.specs.Tree.{Files, Content, bytes, a_folder, nothing, holds, a_file, with_leaf}
+use Rattle.pkg_world.specs.Tree.{Files, bytes, a_folder, nothing, holds, a_file, with_leaf}
 use Rattle.toml_view.specs.Document.{viewed}
 use Rattle.world_maker.specs.declared.files.TableFile.{TableFile}
 use Rattle.world_maker.specs.World.{Tabled}

@@ -1,4 +1,4 @@
-use Rattle.std.proofs.Common.{◌≡◌, ◌≤◌, [], ◌∷◌, ◌++◌, ap, sym, ◌∙◌, arith}
+use Rattle.std.proofs.Common.{◌≡◌, [], ◌∷◌, ◌++◌, ap, sym, ◌∙◌, arith}
 use Rattle.world_maker.specs.Draws.{stepped, drawn, state}
 use Rattle.world_maker.specs.Drawn.{starts_from}
 use Rattle.world_maker.proofs.Orbit.{state_none, state_more, starts_more}

@@ -1,6 +1,4 @@
-use Rattle.std.proofs.Common.{◌≡◌, ◌*◌, ◌++◌, map, length, ap, sym, ◌∙◌}
-use Rattle.world_maker.specs.Laid.{file_of}
-use Rattle.world_maker.specs.World.{package_files}
+use Rattle.std.proofs.Common.{length, ap, ◌∙◌}
 use Rattle.world_maker.proofs.Known.{length_spans}
 use Rattle.world_maker.proofs.files.push_drawn.Goals as goal
 

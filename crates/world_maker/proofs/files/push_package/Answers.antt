@@ -1,9 +1,8 @@
-use Rattle.std.proofs.Common.{◌≡◌, List, [], ◌∷◌, ◌++◌, true, codes, map, refl, sym, ap, subst, ◌∙◌}
-use Rattle.pkg_world.specs.Path.{Path, is_plain}
-use Rattle.toml.specs.Data.{Members}
+use Rattle.std.proofs.Common.{◌≡◌, [], ◌∷◌, ◌++◌, true, codes, map, sym, subst, ◌∙◌}
+use Rattle.pkg_world.specs.Path.{is_plain}
 use Rattle.world_maker.specs.Laid.{file_of}
 use Rattle.world_maker.specs.Texts.{name}
-use Rattle.world_maker.specs.World.{Tabled, registry, filed}
+use Rattle.world_maker.specs.World.{registry, filed}
 use Rattle.world_maker.proofs.Parted.{name_plain}
 use Rattle.world_maker.proofs.Pushed.{four}
 use Rattle.world_maker.proofs.files.push_package.Goals as goal

@@ -1,9 +1,8 @@
-use Rattle.std.proofs.Common.{◌≡◌, ℕ, Vec, Global, ◌≤◌, ◌<◌, ◌+◌, ◌*◌, [], ◌∷◌, ◌++◌, List, map, length, get_or, refl, sym, ap, subst, ◌∙◌, arith}
+use Rattle.std.proofs.Common.{◌≡◌, ℕ, Vec, Global, ◌<◌, ◌*◌, ◌++◌, List, map, length, get_or, sym, ap, subst, ◌∙◌, arith}
 use Rattle.std.proofs.lemmas.List.{append-nil}
 use Rattle.std.specs.List.{AllByRecursion, flat_map, range_with_len}
 use Rattle.world_maker.specs.Draws.{state}
-use Rattle.world_maker.specs.Drawn.{starts_from, asked, needs_at, all_needs, spans_from, ranged}
-use Rattle.world_maker.specs.Laid.{file_of}
+use Rattle.world_maker.specs.Drawn.{starts_from, asked, all_needs, spans_from, ranged}
 use Rattle.world_maker.specs.World.{first_files, package_files, drawn_files, before_needs, before_spans, needs_of, sized_world}
 use Rattle.world_maker.proofs.Known.{Rows, starts_small, length_starts, needs_known, length_rows, row_at}
 use Rattle.world_maker.proofs.Orbit.{state_none, state_plus, ranged_none, ranged_more}

@@ -1,10 +1,9 @@
-use Rattle.std.proofs.Common.{◌≡◌, ◌+◌, ◌<◌, ◌∷◌, ◌++◌, [], map, take, length, get_or, subst, sym, ap, ◌∙◌, arith}
+use Rattle.std.proofs.Common.{◌≡◌, ◌+◌, ◌<◌, ◌∷◌, ◌++◌, [], map, take, length, get_or, subst, sym, ap, ◌∙◌}
 use Rattle.std.proofs.Math.Seq.{take-length}
 use Rattle.std.proofs.lemmas.List.{take_more}
 use Rattle.std.specs.List.{AllByRecursion}
 use Rattle.pkg_world.specs.Held.{sure_files}
-use Rattle.toml_view.specs.Document.{viewed}
-use Rattle.world_maker.specs.Laid.{file_of, HasExactly, DoPart, IsPlain, IsFree}
+use Rattle.world_maker.specs.Laid.{file_of, HasExactly, DoPart, IsPlain}
 use Rattle.world_maker.specs.World.{Tabled}
 use Rattle.world_maker.proofs.Apart.{one_more, free, parted_at, deep_at, plain_at, none_yet, mapped_at, mapped_inside, all_mapped}
 use Rattle.world_maker.proofs.laying.lay_all.Goals as goal

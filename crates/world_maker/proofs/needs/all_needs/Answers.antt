@@ -1,9 +1,9 @@
-use Rattle.std.proofs.Common.{◌≡◌, ◌≤◌, ◌+◌, [], ◌∷◌, ◌++◌, map, refl, ap, sym, ◌∙◌, arith}
+use Rattle.std.proofs.Common.{◌≡◌, ◌+◌, [], ◌∷◌, ◌++◌, map, ap, sym, ◌∙◌, arith}
 use Rattle.std.proofs.lemmas.List.{map-append}
 use Rattle.std.proofs.lemmas.List.FromFn.{map-range_with_len_more}
 use Rattle.std.specs.List.{range_with_len}
 use Rattle.world_maker.specs.Draws.{drawn, state}
-use Rattle.world_maker.specs.Drawn.{needs_at, needs_from, all_needs, asked}
+use Rattle.world_maker.specs.Drawn.{needs_at, needs_from, asked}
 use Rattle.world_maker.proofs.Orbit.{state_none, state_plus, asked_none, asked_more}
 use Rattle.world_maker.proofs.needs.all_needs.Goals as goal
 

@@ -1,4 +1,4 @@
-use Rattle.std.proofs.Common.{◌≡◌, ◌≤◌, ◌+◌, nat_lt, map, ap, sym, ◌∙◌, arith}
+use Rattle.std.proofs.Common.{◌≡◌, ◌+◌, nat_lt, map, ap, sym, ◌∙◌, arith}
 use Rattle.std.specs.List.{filter, range_with_len}
 use Rattle.world_maker.specs.Draws.{stepped, drawn, state}
 use Rattle.world_maker.specs.Drawn.{distinct, candidate, with_need}
