@@ -7,5 +7,5 @@ mod options;
 mod resolve_command;
 mod telling;
 
-pub use laws::{ample_budget_suffices, ending_is_best, none_is_none};
+pub use laws::{ample_budget_suffices, ending_is_best, logs_are_printable, none_is_none};
 pub use resolve_command::resolve_project;

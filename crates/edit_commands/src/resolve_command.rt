@@ -14,7 +14,7 @@ use crate::options::Options;
 use command_answers::{Ending, Status};
 use offer_book::{Catalog, Demand};
 use pkg_commands::Command;
-use pkg_world::{Ids, Place, Store};
+use pkg_world::{Ids, NormPath, Place, Store};
 use project_phases::{Opened, edit_project, gather_book, open_project};
 use std::alloc::Global;
 
@@ -23,20 +23,24 @@ use std::alloc::Global;
 /// demand of the project, and in which no package can be raised alone. (Pkg, Compatibility and Manifest.toml; the order, the
 /// lines and raising are own rules.) Nothing is written here.
 ///
+/// Where no selection is feasible and a file is named for the proof, that file alone is to be replaced, by the text of the
+/// certificate, and then Unsatisfiable is told.
+///
 /// Refusals, of which the first that is due comes: MissingFile of the project file; BadFile of the project file and of the
 /// manifest, which is empty where it isn't there; MissingFile and BadFile of the files of the catalog; WrongJulia; NeedsFetch;
 /// MissingFile and BadFile of the tables of the packages that are reached; UnknownPackage; Limit of packages, of states, of
-/// bits and of cells; Unsatisfiable, where no selection is feasible and the search fits the budget, with its certificate;
-/// GaveUp, where the search spends the budget before it finds a solution, with as many nodes. ReadFault comes where the store
+/// bits and of cells; Unsatisfiable, where no selection is feasible and the search fits the budget, with its certificate, and no
+/// file is named for the proof; GaveUp, where the search spends the budget before it finds a solution, with as many nodes. ReadFault comes where the store
 /// fails, and want of memory is free.
 pub fn resolve_project<S: Store>(
     alloc: Global,
     place: &Place,
     budget: u32,
     classes: bool,
+    proof: &Option<NormPath>,
     store: &mut S,
 ) -> Result<Ending, Status>
-    ensures answer { IfSome (S.files store.old) (λ all. EndsBy (spec.IsDue all place.now budget classes) result) }
+    ensures answer { IfSome (S.files store.old) (λ all. EndsBy (spec.IsDue all place.now budget classes proof.now) result) }
     ensures told { IfOk result TellsLate }
     ensures late { IfErr result IsLate }
     ensures unprinted { IfErr result IsUnprinted }
@@ -45,9 +49,13 @@ pub fn resolve_project<S: Store>(
     ensures later { S.read_faults store.old ≤ S.read_faults store.new }
     ensures other { S.write_faults store.new ≡ S.write_faults store.old }
 {
-    let options = Options { budget, classes };
+    let options = Options {
+        budget,
+        classes,
+        proof,
+    };
     match open_project(alloc, place, false, store) {
-        Ok(opened) => of_opened(alloc, place, options, store, opened),
+        Ok(opened) => of_opened(alloc, place, &options, store, opened),
         Err(status) => Err(status),
     }
 }
@@ -56,11 +64,11 @@ pub fn resolve_project<S: Store>(
 fn of_opened<S: Store>(
     alloc: Global,
     place: &Place,
-    options: Options,
+    options: &Options,
     store: &mut S,
     opened: Opened,
 ) -> Result<Ending, Status>
-    ensures answer { IfSome (S.files store.old) (λ all. EndsBy (spec.IsAnswerOn (spec.with_opened all place.now (seen_opened opened)) options.budget options.classes) result) }
+    ensures answer { IfSome (S.files store.old) (λ all. EndsBy (spec.IsAnswerOn (spec.with_opened all place.now (seen_opened opened)) options.now) result) }
     ensures told { IfOk result TellsLate }
     ensures late { IfErr result IsLate }
     ensures unprinted { IfErr result IsUnprinted }
@@ -83,12 +91,12 @@ fn of_opened<S: Store>(
 /// The same by the project's demand.
 fn of_demand<S: Store>(
     alloc: Global,
-    options: Options,
+    options: &Options,
     store: &mut S,
     catalog: &Catalog,
     demand: &Demand,
 ) -> Result<Ending, Status>
-    ensures answer { IfSome (S.files store.old) (λ all. EndsBy (spec.IsAnswerOn (spec.with_demand all catalog.now (wanted demand.now)) options.budget options.classes) result) }
+    ensures answer { IfSome (S.files store.old) (λ all. EndsBy (spec.IsAnswerOn (spec.with_demand all catalog.now (wanted demand.now)) options.now) result) }
     ensures told { IfOk result TellsLate }
     ensures late { IfErr result IsLate }
     ensures unprinted { IfErr result IsUnprinted }

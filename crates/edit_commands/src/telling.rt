@@ -4,6 +4,7 @@ ghost use Rattle.manifest_file.specs.Saying.{read_of};
 ghost use Rattle.manifest_file.specs.Written.{written as table_of};
 ghost use Rattle.offer_terms.specs.Demanded.{wanted};
 ghost use Rattle.toml_view.specs.Document.{viewed};
+ghost use Rattle.log_text.specs.Text.{text_of};
 ghost use Rattle.book_graph.specs.Limits.{IsPast};
 ghost use Rattle.resolve_core.specs.Classed.{AreClassesOf};
 ghost use Rattle.manifest_writing.specs.Writing.{written as manifest_of};
@@ -12,9 +13,11 @@ ghost use Rattle.command_answers.specs.Endings.{said_write};
 ghost use Rattle.edit_commands.specs.ResolveDue as spec;
 
 use command_answers::{Write, Writes};
+use log_text::print_log;
 use manifest_writing::{FoundExtensions, manifest_text, written};
 use offer_book::{Book, Catalog, Demand, Selection};
 use pkg_world::{Bytes, Duplicate, Listed, NormPath};
+use refutation_log::Log;
 use resolve_core::{ClassTable, Resolved, class_table};
 use resolve_lines::{class_lines, resolved_line};
 use std::alloc::{AllocError, Global};
@@ -104,6 +107,14 @@ fn manifest_bytes(
     let found = FoundExtensions::new(alloc);
     let manifest = written(alloc, book, demand, selection, &found)?;
     manifest_text(alloc, &manifest)
+}
+
+/// The file to be replaced where no selection is feasible: the one that is named for the proof, by the certificate's text.
+pub(crate) fn proof_writes(alloc: Global, file: &NormPath, log: &Log) -> Result<Writes, AllocError>
+    ensures { IfOk result (λ writes. map said_write writes.items ≡ (file.now, text_of log.now.items) ∷ []) }
+{
+    let text = print_log(alloc, log)?;
+    one_write(alloc, file, text)
 }
 
 /// The replacing of one file.
