@@ -2,7 +2,6 @@
 use Rattle.std.proofs.Common.{◌≡◌, ℕ, true, List, [], Result, Ok, Err, sym, subst}
 use Rattle.std.specs.Prelude.{Contains, is_some}
 use Rattle.jl_versions.specs.declared.version.Version.{Version}
-use Rattle.pkg_world.specs.Path.{Path}
 use Rattle.pkg_world.specs.Tree.{Files}
 use Rattle.offer_terms.specs.Offered.{Text, Id, Offering, Offers, Selected, cut_to}
 use Rattle.offer_terms.specs.Booked.{Packed, book_offers}
@@ -19,17 +18,22 @@ use Rattle.instance_search.specs.declared.answer.Answer.TheVariants.{Empty, Spen
 use Rattle.book_graph.specs.StandsFor.{IsBook, Covers}
 use Rattle.resolve_core.specs.Resolved.{IsAnswer}
 use Rattle.resolve_core.specs.Laws.{ResolvedIsBest, UnsatisfiableIsNone, GivenUpIsSpent}
+use Rattle.pkg_commands.specs.Edit.{Edited}
 use Rattle.command_answers.specs.Endings.{SaidWrite, SaidEnding}
 use Rattle.command_answers.specs.declared.status.Status.{Status}
 use Rattle.command_answers.specs.declared.status.Status.TheVariants.{Ok as StatusOk, BadWords, MissingFile, BadFile, NeedsFetch, NoIdentity, NoSource, Unsatisfiable, GaveUp, ReadFault, WriteFault, Blocked, UnknownName, UnknownPackage, AmbiguousName, Limit, Differs, NotInProject, NotInManifest, NotPinned, NotAProject, NameTaken, WrongJulia, NotBuilt, Memory, SinkFault}
-use Rattle.edit_commands.specs.ResolveDue.{Posed, Options, question_of, IsFoundEnding, IsFoundNone, IsFoundTold, IsStopped, IsFound, IsEnding, IsNone, IsSpent, IsToldNone, IsTold, IsRefusal, IsAnswerTo}
+use Rattle.edit_commands.specs.EditDue.{Posed, question_of, posed_of, IsFoundEnding, IsFoundNone, IsFoundTold, IsStopped, IsFound, IsEnding, IsNone, IsSpent, IsToldNone, IsTold, IsRefusal, IsAnswerTo}
+use Rattle.edit_commands.specs.declared.options.Options.{Options}
 
 module _ (offers_law : BookOffersAreAll) (numbers_law : NumbersAreReached) (valid_law : ValidAlike) (raised_law : RaisedAlike) (cut_law : FeasibleInBook)
     (best_law : ResolvedIsBest) (none_law : UnsatisfiableIsNone) (spent_law : GivenUpIsSpent)
-    (files : Files) (catalog : SaidCatalog) (w : Wanted) (path : Path) (book : List Packed) (gathers : gathered files catalog (scope w) [] ≡ Ok book) (sound : IsBook book)
+    (files : Files) (catalog : SaidCatalog) (edit : Edited) (book : List Packed) (gathers : gathered files catalog (scope edit.demand) [] ≡ Ok book) (sound : IsBook book)
     (o : Options) where
+  abbrev w : Wanted
+  w = edit.demand
+
   abbrev over_all : Posed
-  over_all = record { offers = all_offers files catalog (scope w); question = question_of w path book }
+  over_all = posed_of files catalog edit book
 
   reached : (u : Id) → is_in book u ≡ true → IsReached (all_offers files catalog (scope w)) (scope w) [] u
   reached u here = (numbers_law files catalog (scope w) [] book u gathers).0 here
@@ -51,7 +55,7 @@ module _ (offers_law : BookOffersAreAll) (numbers_law : NumbersAreReached) (vali
     needs = λ u x d here there dep other. numbered d.1 (leads u x d here there dep);
   }
 
-  ending : (line : List ℕ) (writes : List SaidWrite) → IsFoundEnding (question_of w path book) o line writes → IsEnding over_all o line writes
+  ending : (line : List ℕ) (writes : List SaidWrite) → IsFoundEnding (question_of edit catalog.home book) o line writes → IsEnding over_all o line writes
   ending line writes found =
       let s : Selected = found.resolved.selection.items in
       let best = best_law book w o.budget found.resolved sound covers found.tells.resolves in
@@ -77,7 +81,7 @@ module _ (offers_law : BookOffersAreAll) (numbers_law : NumbersAreReached) (vali
       let law = spent_law book w o.budget log answer in
       record { answer = answer; spent = law.0; below = law.1 }
 
-  refusal : (status : Status) → IsStopped (question_of w path book) o status → IsRefusal over_all o status
+  refusal : (status : Status) → IsStopped (question_of edit catalog.home book) o status → IsRefusal over_all o status
   refusal StatusOk h = h
   refusal (BadWords word) h = h
   refusal (MissingFile at) h = h
@@ -105,7 +109,7 @@ module _ (offers_law : BookOffersAreAll) (numbers_law : NumbersAreReached) (vali
   refusal Memory h = h
   refusal SinkFault h = h
 
-  told_none : (status : Status) (writes : List SaidWrite) → IsFoundNone (question_of w path book) o status writes → IsToldNone over_all o status writes
+  told_none : (status : Status) (writes : List SaidWrite) → IsFoundNone (question_of edit catalog.home book) o status writes → IsToldNone over_all o status writes
   told_none StatusOk writes h = h
   told_none (BadWords word) writes h = h
   told_none (MissingFile at) writes h = h
@@ -133,10 +137,10 @@ module _ (offers_law : BookOffersAreAll) (numbers_law : NumbersAreReached) (vali
   told_none Memory writes h = h
   told_none SinkFault writes h = h
 
-  told : (it : Result (List ℕ) Status) (writes : List SaidWrite) → IsFoundTold (question_of w path book) o it writes → IsTold over_all o it writes
+  told : (it : Result (List ℕ) Status) (writes : List SaidWrite) → IsFoundTold (question_of edit catalog.home book) o it writes → IsTold over_all o it writes
   told (Ok line) writes h = ending line writes h
   told (Err status) writes h = told_none status writes h
 
-  pub due : (answer : Result SaidEnding Status) → IsFound (question_of w path book) o answer → IsAnswerTo over_all o answer
+  pub due : (answer : Result SaidEnding Status) → IsFound (question_of edit catalog.home book) o answer → IsAnswerTo over_all o answer
   due (Ok e) h = told e.told e.writes h
   due (Err status) h = refusal status h

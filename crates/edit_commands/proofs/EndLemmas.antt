@@ -5,12 +5,11 @@ use Rattle.pkg_world.specs.Tree.{Files}
 use Rattle.registry_tables.specs.Answers.{missing, bad}
 use Rattle.offer_terms.specs.Offered.{Id}
 use Rattle.offer_terms.specs.Booked.{Packed}
-use Rattle.offer_terms.specs.Demanded.{Wanted}
 use Rattle.offer_catalog.specs.SaidCatalog.{SaidCatalog}
 use Rattle.offer_book.specs.Scope.{scope}
-use Rattle.offer_book.specs.AllOffers.{all_offers}
 use Rattle.offer_book.specs.Gathered.{BookRefusal, unusable, unknown, too_many, gathered}
 use Rattle.book_graph.specs.StandsFor.{IsBook}
+use Rattle.pkg_commands.specs.Edit.{Edited}
 use Rattle.command_answers.proofs.Endings.{refuses_as, ends_as}
 use Rattle.command_answers.specs.Answers.{Refuses}
 use Rattle.command_answers.specs.Endings.{RefusesBy, EndsBy}
@@ -19,7 +18,8 @@ use Rattle.command_answers.specs.declared.status.Status.{Status}
 use Rattle.project_phases.specs.Refusals.{told_book}
 use Rattle.project_phases.specs.Phases.{booked_in}
 use Rattle.edit_commands.specs.Laws.{FoundIsDue}
-use Rattle.edit_commands.specs.ResolveDue.{Posed, Options, question_of, with_demand, IsFound, IsAnswerTo, IsAnswerOn}
+use Rattle.edit_commands.specs.EditDue.{Posed, question_of, posed_of, with_edit, IsFound, IsAnswerTo, IsAnswerOn}
+use Rattle.edit_commands.specs.declared.options.Options.{Options}
 
 -- what an equal refusal ends with
 ends : {T : Type 0} (phase : Result T Status) (next : T → Result Posed Status) (o : Options) (refusal : Status) → phase ≡ Err refusal
@@ -73,30 +73,29 @@ gathers (Err (unknown uuid)) book same = cc
 gathers (Err too_many) book same = cc
 
 -- the ending by a book that was gathered
-by_book : FoundIsDue → (files : Files) (catalog : SaidCatalog) (w : Wanted) (book : List Packed) (o : Options) → booked_in files catalog w [] ≡ Ok book → IsBook book
-    → (answer : Result Ending Status) → EndsBy (IsFound (question_of w catalog.home.manifest book) o) answer
-    → EndsBy (IsAnswerOn (with_demand files catalog w) o) answer
-by_book law files catalog w book o books sound answer h =
-    let q = question_of w catalog.home.manifest book in
-    let it : Posed = record { offers = all_offers files catalog (scope w); question = q } in
-    let here : gathered files catalog (scope w) [] ≡ Ok book = gathers (gathered files catalog (scope w) []) book books in
+by_book : FoundIsDue → (files : Files) (catalog : SaidCatalog) (edit : Edited) (book : List Packed) (o : Options) → booked_in files catalog edit.demand [] ≡ Ok book → IsBook book
+    → (answer : Result Ending Status) → EndsBy (IsFound (question_of edit catalog.home book) o) answer
+    → EndsBy (IsAnswerOn (with_edit files catalog edit) o) answer
+by_book law files catalog edit book o books sound answer h =
+    let q = question_of edit catalog.home book in
+    let it = posed_of files catalog edit book in
+    let here : gathered files catalog (scope edit.demand) [] ≡ Ok book = gathers (gathered files catalog (scope edit.demand) []) book books in
     let over : EndsBy (IsAnswerTo it o) answer =
-    ends_as (IsFound q o) (IsAnswerTo it o) (λ a found. law files catalog w catalog.home.manifest book o a here sound found) answer h in
-    let next = λ (b : List Packed). let r : Result Posed Status = Ok (record { offers = all_offers files catalog (scope w); question = question_of w catalog.home.manifest b }) in r in
+    ends_as (IsFound q o) (IsAnswerTo it o) (λ a found. law files catalog edit book o a here sound found) answer h in
+    let next = λ (b : List Packed). let r : Result Posed Status = Ok (posed_of files catalog edit b) in r in
     subst (λ r. EndsBy (IsAnswerOn (then_ok r next) o) answer) (sym books) over
 
-pub by_gathered : FoundIsDue → (told : Option Files) (catalog : SaidCatalog) (w : Wanted) (extra : List Id) → extra ≡ [] → (book : List Packed) (o : Options)
-    → IfSome told (λ files. booked_in files catalog w extra ≡ Ok book) → IsBook book → (answer : Result Ending Status)
-    → EndsBy (IsFound (question_of w catalog.home.manifest book) o) answer
-    → IfSome told (λ files. EndsBy (IsAnswerOn (with_demand files catalog w) o) answer)
-by_gathered law None catalog w extra none book o books sound answer h = tt
-by_gathered law (Some files) catalog w extra none book o books sound answer h =
-    by_book law files catalog w book o (subst (λ ids. booked_in files catalog w ids ≡ Ok book) none books) sound answer h
+pub by_gathered : FoundIsDue → (told : Option Files) (catalog : SaidCatalog) (edit : Edited) (extra : List Id) → extra ≡ [] → (book : List Packed) (o : Options)
+    → IfSome told (λ files. booked_in files catalog edit.demand extra ≡ Ok book) → IsBook book → (answer : Result Ending Status)
+    → EndsBy (IsFound (question_of edit catalog.home book) o) answer
+    → IfSome told (λ files. EndsBy (IsAnswerOn (with_edit files catalog edit) o) answer)
+by_gathered law None catalog edit extra none book o books sound answer h = tt
+by_gathered law (Some files) catalog edit extra none book o books sound answer h =
+    by_book law files catalog edit book o (subst (λ ids. booked_in files catalog edit.demand ids ≡ Ok book) none books) sound answer h
 
-pub book_refuses : (told : Option Files) (catalog : SaidCatalog) (w : Wanted) (extra : List Id) → extra ≡ [] → (o : Options) (status : Status)
-    → IfSome told (λ files. Refuses (booked_in files catalog w extra) status)
-    → IfSome told (λ files. RefusesBy (IsAnswerOn (with_demand files catalog w) o) status)
-book_refuses told catalog w extra none o status h =
-    phase_refuses told (λ files. booked_in files catalog w [])
-    (λ files book. Ok (record { offers = all_offers files catalog (scope w); question = question_of w catalog.home.manifest book })) o status
-    (subst (λ ids. IfSome told (λ files. Refuses (booked_in files catalog w ids) status)) none h)
+pub book_refuses : (told : Option Files) (catalog : SaidCatalog) (edit : Edited) (extra : List Id) → extra ≡ [] → (o : Options) (status : Status)
+    → IfSome told (λ files. Refuses (booked_in files catalog edit.demand extra) status)
+    → IfSome told (λ files. RefusesBy (IsAnswerOn (with_edit files catalog edit) o) status)
+book_refuses told catalog edit extra none o status h =
+    phase_refuses told (λ files. booked_in files catalog edit.demand []) (λ files book. Ok (posed_of files catalog edit book)) o status
+    (subst (λ ids. IfSome told (λ files. Refuses (booked_in files catalog edit.demand ids) status)) none h)

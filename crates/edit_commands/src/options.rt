@@ -1,22 +1,15 @@
-//! What is asked of `resolve` beside its files.
+//! What the search and its telling go by.
 use pkg_world::NormPath;
-use std::marker::Model;
 
-/// The options of `resolve`.
-#[derive(Drop)]
-pub(crate) struct Options<'a> {
+/// What is asked of a command that writes beside the project's edit.
+#[derive(Debug, Drop)]
+pub(crate) struct Options {
     /// How many nodes a search may have.
     pub budget: u32,
+    /// Whether the project file is replaced.
+    pub rewrites: bool,
     /// Whether the classes are told before the line.
     pub classes: bool,
     /// The file that gets the certificate where no selection is feasible.
-    pub proof: &'a Option<NormPath>,
-}
-
-impl<'a> Model for Options<'a> {
-    ghost use Rattle.edit_commands.specs.ResolveDue as spec;
-
-    ghost Value = { spec.Options };
-
-    ghost view = { λ it. record { budget = it.budget; classes = it.classes; proof = it.proof.now } };
+    pub proof: Option<NormPath>,
 }

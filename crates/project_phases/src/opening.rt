@@ -1,12 +1,15 @@
 //! Reading the files of a command.
-ghost use Rattle.std.specs.Prelude.{◌≡◌, ◌≤◌, Ok, IfSome, IfErr, MatchResult};
+ghost use Rattle.std.specs.Prelude.{◌≡◌, ◌≤◌, Ok, IfSome, IfOk, IfErr, MatchResult};
+ghost use Rattle.toml.specs.View.{table_view};
+ghost use Rattle.project_file.specs.Keys.{IsPlain};
+ghost use Rattle.registry_tables.specs.Answers.{Refuses as RefusesRead, ReadFaultRose as RoseReading};
 ghost use Rattle.home_files.specs.HomeFiles.{seen as seen_files};
 ghost use Rattle.command_answers.specs.Answers.{Refuses, ReadFaultRose, IsLate, IsUnprinted};
 ghost use Rattle.project_phases.specs.Phases as spec;
 
 use crate::refusals::book_status;
 use command_answers::Status;
-use home_files::{HomeFiles, project_files};
+use home_files::{HomeFiles, begun_files, project_files};
 use manifest_file::Manifest;
 use offer_catalog::Catalog;
 use pkg_world::{Place, Store};
@@ -22,20 +25,22 @@ pub struct Opened {
     pub manifest: Manifest,
 }
 
-/// What the files of the active project and of its catalog say. The project file must be there, and the manifest where it is
-/// needed; one that isn't needed and isn't there is empty.
+/// What the files of the active project and of its catalog say. The manifest is empty where it isn't there, and so is the
+/// project file where it is begun; else that file must be there.
 ///
 /// Refusals, of which the first that is due comes: MissingFile and BadFile of the project file, the manifest, and the files
 /// of the catalog. ReadFault comes where the store fails, and want of memory is free.
 pub fn open_project<S: Store>(
     alloc: Global,
     place: &Place,
-    needed: bool,
+    begun: bool,
     store: &mut S,
 ) -> Result<Opened, Status>
     ensures told { IfSome (S.files store.old) (λ all. MatchResult result
-        (λ it. spec.opened_in needed all place.now ≡ Ok (spec.seen it))
-        (Refuses (spec.opened_in needed all place.now))) }
+        (λ it. spec.opened_in begun all place.now ≡ Ok (spec.seen it))
+        (Refuses (spec.opened_in begun all place.now))) }
+    // `to_table` takes the project.
+    ensures plain { IfOk result (λ it. IsPlain (table_view it.project.rest)) }
     ensures late { IfErr result IsLate }
     ensures unprinted { IfErr result IsUnprinted }
     ensures fault { IfErr result (ReadFaultRose (S.read_faults store.old) (S.read_faults store.new)) }
@@ -43,12 +48,33 @@ pub fn open_project<S: Store>(
     ensures later { S.read_faults store.old ≤ S.read_faults store.new }
     ensures other { S.write_faults store.new ≡ S.write_faults store.old }
 {
-    match project_files(alloc, store, place, needed) {
+    match files_by(alloc, store, place, begun) {
         Ok(files) => of_files(alloc, place, store, files),
         Err(RegFault::ReadFault(path)) => Err(Status::ReadFault(path)),
         Err(RegFault::MissingFile(path)) => Err(Status::MissingFile(path)),
         Err(RegFault::BadFile(path, cause)) => Err(Status::BadFile(path, cause)),
         Err(RegFault::Memory) => Err(Status::Memory),
+    }
+}
+
+/// The two files of the active project.
+fn files_by<S: Store>(
+    alloc: Global,
+    store: &mut S,
+    place: &Place,
+    begun: bool,
+) -> Result<HomeFiles, RegFault>
+    ensures told { IfSome (S.files store.old) (λ all. MatchResult result (λ it. spec.files_by begun all place.now ≡ Ok (seen_files it)) (RefusesRead (spec.files_by begun all place.now))) }
+    ensures plain { IfOk result (λ it. IsPlain (table_view it.project.rest)) }
+    ensures fault { IfErr result (RoseReading (S.read_faults store.old) (S.read_faults store.new)) }
+    ensures files { S.files store.new ≡ S.files store.old }
+    ensures later { S.read_faults store.old ≤ S.read_faults store.new }
+    ensures other { S.write_faults store.new ≡ S.write_faults store.old }
+{
+    if begun {
+        begun_files(alloc, store, place)
+    } else {
+        project_files(alloc, store, place, false)
     }
 }
 
@@ -59,9 +85,11 @@ fn of_files<S: Store>(
     store: &mut S,
     files: HomeFiles,
 ) -> Result<Opened, Status>
+    requires { IsPlain (table_view files.project.rest) }
     ensures told { IfSome (S.files store.old) (λ all. MatchResult result
         (λ it. spec.with_files all place.now (seen_files files) ≡ Ok (spec.seen it))
         (Refuses (spec.with_files all place.now (seen_files files)))) }
+    ensures plain { IfOk result (λ it. IsPlain (table_view it.project.rest)) }
     ensures late { IfErr result IsLate }
     ensures unprinted { IfErr result IsUnprinted }
     ensures fault { IfErr result (ReadFaultRose (S.read_faults store.old) (S.read_faults store.new)) }
