@@ -12,11 +12,13 @@ use Rattle.offer_catalog.specs.SaidCatalog.{SaidCatalog}
 use Rattle.offer_catalog.specs.Catalogued.{catalogued}
 use Rattle.offer_book.specs.Scope.{scope}
 use Rattle.offer_book.specs.Gathered.{BookRefusal, unusable, unknown, too_many, gathered}
+use Rattle.home_files.specs.HomeFiles.{HomeFiles, begun_files, project_files}
 use Rattle.fixed_packages.specs.FixedPackages.{read_as}
 use Rattle.project_file.specs.Said as project
 use Rattle.project_places.specs.Active.{file_in}
 use Rattle.project_places.specs.Files.{at_file, project_in}
-use Rattle.pkg_commands.specs.Edit.{Edited, EditRefusal, wrong, to_fetch, edited}
+use Rattle.project_changes.specs.Refusals.{taken, unknown, unknown_package, ambiguous, not_in_project, not_in_manifest, not_pinned}
+use Rattle.pkg_commands.specs.Edit.{Edited, EditRefusal, refused, wrong, to_fetch, edited}
 use Rattle.pkg_commands.specs.Commands.{SaidCommand, develop}
 use Rattle.refutation_log.specs.declared.node.Node.{Node}
 use Rattle.log_text.specs.Text.{text_of}
@@ -24,11 +26,11 @@ use Rattle.resolve_core.specs.Laws.{most_nodes}
 use Rattle.command_answers.specs.Endings.{SaidWrite, SaidEnding}
 use Rattle.command_answers.specs.declared.status.Status.{Status}
 use Rattle.command_answers.specs.declared.status.Status.TheVariants.{Ok as StatusOk, BadWords, MissingFile, BadFile, NeedsFetch, NoIdentity, NoSource, Unsatisfiable, GaveUp, ReadFault, WriteFault, Blocked, UnknownName, UnknownPackage, AmbiguousName, Limit, Differs, NotInProject, NotInManifest, NotPinned, NotAProject, NameTaken, WrongJulia, NotBuilt, Memory, SinkFault}
-use Rattle.project_phases.specs.Phases.{Opened, SaidWish, ready, folder, files_by, opened_in, is_package, folder_project, developed, command_in, edited_as, booked_in, with_files, with_catalog}
+use Rattle.project_phases.specs.Phases.{Opened, SaidWish, ready, folder, is_package, folder_project, developed, command_in, edited_as, booked_in, with_files, with_catalog}
 use Rattle.project_phases.specs.Refusals.{told_read, told_edit, told_book}
 use Rattle.edit_commands.specs.Orders.{SaidOrder, begins, wish_of, proof_file, options_of}
 use Rattle.edit_commands.specs.declared.options.Options.{Options}
-use Rattle.edit_commands.specs.EditDue.{Posed, posed_of, posed_in, with_wish, with_command, with_edit, IsProof, IsEnding, IsNone, IsToldNone, IsTold, IsAnswerOn, IsDue}
+use Rattle.edit_commands.specs.EditDue.{Posed, posed_of, opened_by, posed_in, with_wish, with_command, with_edit, IsProof, IsEnding, IsNone, IsToldNone, IsTold, IsAnswerOn, IsDue}
 use Rattle.edit_commands.specs.Laws.{SaysBest, HasNone, SaysNone, SaysRefusal, SaysTold, LogsArePrintable}
 
 -- a status that the search doesn't give
@@ -47,7 +49,16 @@ read_early (Err (missing path)) = tt
 read_early (Err (bad path cause)) = tt
 
 edit_early : (edit : Result Edited EditRefusal) → IfErr (told_edit edit) IsEarly
-EDIT_EARLY
+edit_early (Ok it) = tt
+edit_early (Err (refused (taken uuid))) = tt
+edit_early (Err (refused (unknown name))) = tt
+edit_early (Err (refused (unknown_package uuid))) = tt
+edit_early (Err (refused (ambiguous least next))) = tt
+edit_early (Err (refused (not_in_project name))) = tt
+edit_early (Err (refused (not_in_manifest name))) = tt
+edit_early (Err (refused (not_pinned name))) = tt
+edit_early (Err (wrong text)) = tt
+edit_early (Err (to_fetch name)) = tt
 
 book_early : (book : Result (List Packed) BookRefusal) → IfErr (told_book book) IsEarly
 book_early (Ok it) = tt
@@ -56,10 +67,14 @@ book_early (Err (unusable (bad path cause))) = tt
 book_early (Err (unknown uuid)) = tt
 book_early (Err too_many) = tt
 
-opened_early : (begun : Bool) (files : Files) (place : Place) → IfErr (opened_in begun files place) IsEarly
-opened_early begun files place = then_early (told_read (files_by begun files place)) (with_files files place) (read_early (files_by begun files place))
+files_early : (reading : Read HomeFiles) (files : Files) (place : Place) → IfErr (then_ok (told_read reading) (with_files files place)) IsEarly
+files_early reading files place = then_early (told_read reading) (with_files files place) (read_early reading)
     (λ it. then_early (told_read (catalogued files place it.home it.project it.manifest)) (λ catalog. let r : Result Opened Status = Ok (with_catalog it catalog) in r)
     (read_early (catalogued files place it.home it.project it.manifest)) (λ catalog. tt))
+
+opened_early : (begun : Bool) (files : Files) (place : Place) → IfErr (opened_by begun files place) IsEarly
+opened_early true files place = files_early (begun_files files place) files place
+opened_early false files place = files_early (project_files false files place) files place
 
 developed_early : (path : Path) (found : Option project.Said) → IfErr (developed path found) IsEarly
 developed_early path None = tt
@@ -87,7 +102,7 @@ with_wish_early : (files : Files) (place : Place) (wish : SaidWish) (it : Opened
 with_wish_early files place wish it = then_early (command_in files wish) (with_command files place it) (command_early files wish) (with_command_early files place it)
 
 posed_early : (files : Files) (place : Place) (order : SaidOrder) → IfErr (posed_in files place order) IsEarly
-posed_early files place order = then_early (opened_in (begins order) files place) (with_wish files place (wish_of order))
+posed_early files place order = then_early (opened_by (begins order) files place) (with_wish files place (wish_of order))
     (opened_early (begins order) files place) (with_wish_early files place (wish_of order))
 
 differ : {A B : Type 0} (a : A) (b : B) → Ok a ≡ Err b → ⊥

@@ -42,11 +42,11 @@ Moves [] (y ∷ ys) = ⊥
 Moves (x ∷ xs) [] = ⊥
 Moves (x ∷ xs) (y ∷ ys) = MovesNode x y × Moves xs ys
 
-moves-append : (as bs xs ys : List Node) → Moves as bs → Moves xs ys → Moves (as ++ xs) (bs ++ ys)
+moves-append : (vs ws xs ys : List Node) → Moves vs ws → Moves xs ys → Moves (vs ++ xs) (ws ++ ys)
 moves-append [] [] xs ys h k = k
-moves-append [] (b ∷ bs) xs ys h k = absurd h
-moves-append (a ∷ as) [] xs ys h k = absurd h
-moves-append (a ∷ as) (b ∷ bs) xs ys h k = (h.0, moves-append as bs xs ys h.1 k)
+moves-append [] (b ∷ ws) xs ys h k = absurd h
+moves-append (a ∷ vs) [] xs ys h k = absurd h
+moves-append (a ∷ vs) (b ∷ ws) xs ys h k = (h.0, moves-append vs ws xs ys h.1 k)
 
 moves-take : (n : ℕ) (xs ys : List Node) → Moves xs ys → Moves (take n xs) (take n ys)
 moves-take zero xs ys h = tt
@@ -84,8 +84,8 @@ module _ (b : Part) (small-package : (p : ℕ) → package_of b p < 2 ^ 32) (sma
   moved-branch : (s t : Option ℕ) → MovesState s t → (p m n : ℕ) → n ≡ m
       → MovesNode (record { state = s; kind = Branch p m }) (record { state = t; kind = Branch (package_of b p) n })
   moved-branch s t moves p m n same first h =
-      let some : 0 < m = h.kind.1.0 in
-      let few : m < 2 ^ 32 = h.kind.1.1 in
+      let some : 0 < m = h.kind.1 in
+      let few : m < 2 ^ 32 = h.kind.2 in
       record { state = moves first h.state; kind = (small-package p, subst (λ k. 0 < k) (sym same) some, subst (λ k. k < 2 ^ 32) (sym same) few) }
 
   mutual
@@ -151,13 +151,13 @@ abbrev pub AreTasks : Bool → List Task → Type 0
 AreTasks first [] = Unit {0}
 AreTasks first (t ∷ ts) = HasState first t.state × AreTasks false ts
 
-tasks-append : (as bs : List Task) → AreTasks false as → AreTasks false bs → AreTasks false (as ++ bs)
-tasks-append [] bs h k = k
-tasks-append (a ∷ as) bs h k = (h.0, tasks-append as bs h.1 k)
+tasks-append : (vs ws : List Task) → AreTasks false vs → AreTasks false ws → AreTasks false (vs ++ ws)
+tasks-append [] ws h k = k
+tasks-append (a ∷ vs) ws h k = (h.0, tasks-append vs ws h.1 k)
 
 tasks-behind : (prefix : Prefix) (p : ℕ) (order : List ℕ) → ((i : ℕ) → Contains order i → i < 2 ^ 32) → AreTasks false (behind prefix p order)
 tasks-behind prefix p [] small = tt
-tasks-behind prefix p (i ∷ order) small = (small i (0, omega arith, refl), tasks-behind prefix p order (λ j there. small j (suc there.0, omega (arith, there.1.0), there.1.1)))
+tasks-behind prefix p (i ∷ order) small = (small i (0, omega arith, refl), tasks-behind prefix p order (λ j there. small j (suc there.0, omega (arith, there.1), there.2)))
 
 module _ (offered : OfferedIsKnown) (largest : ClosureIsLargest) (choose : Choice) (law : IsChoice choose) (g : Graph) (sound : IsGraph g) where
   small-order : (prefix : Prefix) (p : ℕ) (order : List ℕ) → choose g prefix p order → (i : ℕ) → Contains order i → i < 2 ^ 32

@@ -50,7 +50,7 @@ use Rattle.pkg_commands.specs.Edit.{Edited}
 use Rattle.command_answers.specs.Endings.{SaidWrite, SaidEnding}
 use Rattle.command_answers.specs.declared.status.Status.{Status}
 use Rattle.command_answers.specs.declared.status.Status.TheVariants.{BadFile, Unsatisfiable, GaveUp, Limit}
-use Rattle.project_phases.specs.Phases.{Opened, SaidWish, opened_in, command_in, edited_as, booked_in}
+use Rattle.project_phases.specs.Phases.{Opened, SaidWish, opened_in, begun_in, command_in, edited_as, booked_in}
 use Rattle.edit_commands.specs.Orders.{SaidOrder, begins, wish_of, options_of}
 use Rattle.edit_commands.specs.declared.options.Options.{Options}
 
@@ -84,8 +84,11 @@ with_command files place it command = then_ok (edited_as command place it) (with
 abbrev pub with_wish : Files → Place → SaidWish → Opened → Result Posed Status
 with_wish files place wish it = then_ok (command_in files wish) (with_command files place it)
 
+abbrev pub opened_by : Bool → Files → Place → Result Opened Status
+opened_by begun files place = if begun then begun_in files place else opened_in false files place
+
 abbrev pub posed_in : Files → Place → SaidOrder → Result Posed Status
-posed_in files place order = then_ok (opened_in (begins order) files place) (with_wish files place (wish_of order))
+posed_in files place order = then_ok (opened_by (begins order) files place) (with_wish files place (wish_of order))
 
 -- ---- what is looked at after the search
 

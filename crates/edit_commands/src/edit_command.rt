@@ -1,11 +1,11 @@
 //! A command that writes: the phases before the packages are chosen.
-ghost use Rattle.std.specs.Prelude.{◌≡◌, ◌≤◌, IfSome, IfOk, IfErr};
+ghost use Rattle.std.specs.Prelude.{◌≡◌, ◌≤◌, Ok, IfSome, IfOk, IfErr, MatchResult};
 ghost use Rattle.toml.specs.View.{table_view};
 ghost use Rattle.project_file.specs.Keys.{IsPlain};
 ghost use Rattle.pkg_commands.specs.Commands.{said_command};
 ghost use Rattle.pkg_commands.specs.Edit.{seen as seen_edit};
 ghost use Rattle.project_phases.specs.Phases.{seen as seen_opened, said_wish};
-ghost use Rattle.command_answers.specs.Answers.{ReadFaultRose, IsLate, IsUnprinted};
+ghost use Rattle.command_answers.specs.Answers.{Refuses, ReadFaultRose, IsLate, IsUnprinted};
 ghost use Rattle.command_answers.specs.Endings.{EndsBy, TellsLate};
 ghost use Rattle.edit_commands.specs.Orders.{said_order};
 ghost use Rattle.edit_commands.specs.EditDue as spec;
@@ -18,7 +18,9 @@ use command_answers::{Ending, Status};
 use offer_book::Catalog;
 use pkg_commands::{Command, Edited};
 use pkg_world::{Ids, Place, Store};
-use project_phases::{Opened, Wish, command_of, edit_project, gather_book, open_project};
+use project_phases::{
+    Opened, Wish, begin_project, command_of, edit_project, gather_book, open_project,
+};
 use std::alloc::Global;
 
 /// What a command that writes ends with, or its refusal: the line of what is resolved, before it the lines of the classes where
@@ -56,9 +58,34 @@ pub fn write_project<S: Store>(
     ensures other { S.write_faults store.new ≡ S.write_faults store.old }
 {
     let parts = parts_of(order, budget);
-    match open_project(alloc, place, parts.begun, store) {
+    match opened_by(alloc, place, parts.begun, store) {
         Ok(opened) => of_opened(alloc, place, &parts.options, parts.wish, store, opened),
         Err(status) => Err(status),
+    }
+}
+
+/// What the files say before the edit.
+fn opened_by<S: Store>(
+    alloc: Global,
+    place: &Place,
+    begun: bool,
+    store: &mut S,
+) -> Result<Opened, Status>
+    ensures told { IfSome (S.files store.old) (λ all. MatchResult result
+        (λ it. spec.opened_by begun all place.now ≡ Ok (seen_opened it))
+        (Refuses (spec.opened_by begun all place.now))) }
+    ensures plain { IfOk result (λ it. IsPlain (table_view it.project.rest)) }
+    ensures late { IfErr result IsLate }
+    ensures unprinted { IfErr result IsUnprinted }
+    ensures fault { IfErr result (ReadFaultRose (S.read_faults store.old) (S.read_faults store.new)) }
+    ensures files { S.files store.new ≡ S.files store.old }
+    ensures later { S.read_faults store.old ≤ S.read_faults store.new }
+    ensures other { S.write_faults store.new ≡ S.write_faults store.old }
+{
+    if begun {
+        begin_project(alloc, place, store)
+    } else {
+        open_project(alloc, place, false, store)
     }
 }
 

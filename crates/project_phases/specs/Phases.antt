@@ -2,7 +2,8 @@
 -- refused ends it: the project's two files and the files of the catalog, in this order; the folder of a package that is to be
 -- developed; the edit, with Julia's version and then what is to be fetched; the tables of the packages that are reached, roots
 -- without a source, and too many packages. (Own rules.)
---     opened_in begun files place              the files; the project file need not be there where it is begun
+--     opened_in needed files place             the files; the manifest must be there where it is needed
+--     begun_in files place                     the files, where the project file need not be there either
 --     command_in files wish                    the command, by the project file of the folder that is to be developed
 --     edited_as command place opened           the edit
 --     booked_in files catalog demand extra     the book, with these packages beside the roots
@@ -25,7 +26,6 @@ use Rattle.fixed_packages.specs.FixedPackages.{read_as}
 use Rattle.home_files.specs.HomeFiles.{HomeFiles, begun_files, project_files}
 use Rattle.project_places.specs.Active.{file_in}
 use Rattle.project_places.specs.Files.{at_file, project_in}
-use Rattle.registry_tables.specs.Answers.{Read}
 use Rattle.pkg_commands.specs.Edit.{Edited, edited}
 use Rattle.pkg_commands.specs.Commands.{SaidCommand, develop, said_command}
 use Rattle.command_answers.specs.declared.status.Status.{Status}
@@ -51,12 +51,11 @@ with_catalog it catalog = record { catalog = catalog; project = it.project; mani
 abbrev pub with_files : Files → Place → HomeFiles → Result Opened Status
 with_files files place it = then_ok (told_read (catalogued files place it.home it.project it.manifest)) (λ catalog. Ok (with_catalog it catalog))
 
--- both files: the manifest is empty where it isn't there, and so is the project file where it is begun
-abbrev pub files_by : Bool → Files → Place → Read HomeFiles
-files_by begun files place = if begun then begun_files files place else project_files false files place
-
 abbrev pub opened_in : Bool → Files → Place → Result Opened Status
-opened_in begun files place = then_ok (told_read (files_by begun files place)) (with_files files place)
+opened_in needed files place = then_ok (told_read (project_files needed files place)) (with_files files place)
+
+abbrev pub begun_in : Files → Place → Result Opened Status
+begun_in files place = then_ok (told_read (begun_files files place)) (with_files files place)
 
 -- a command, or the folder of the package that is to be developed
 pub data SaidWish : Type 0 where

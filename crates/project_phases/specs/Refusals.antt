@@ -6,17 +6,29 @@ use Rattle.offer_terms.specs.Booked.{Packed}
 use Rattle.offer_catalog.specs.declared.fault.BookFault.{BookFault}
 use Rattle.offer_catalog.specs.declared.fault.BookFault.TheVariants as faults
 use Rattle.offer_book.specs.Gathered.{BookRefusal, unusable, unknown, too_many}
-use Rattle.pkg_commands.specs.Edit.{Edited, EditRefusal, wrong, to_fetch}
+use Rattle.project_changes.specs.Refusals.{ChangeRefusal, taken, unknown, unknown_package, ambiguous, not_in_project, not_in_manifest, not_pinned}
+use Rattle.pkg_commands.specs.Edit.{Edited, EditRefusal, refused, wrong, to_fetch}
 use Rattle.command_answers.specs.declared.status.Status.{Status}
-use Rattle.command_answers.specs.declared.status.Status.TheVariants.{MissingFile, BadFile, NeedsFetch, ReadFault, UnknownPackage, Limit, WrongJulia, Memory}
+use Rattle.command_answers.specs.declared.status.Status.TheVariants.{MissingFile, BadFile, NeedsFetch, ReadFault, UnknownName, UnknownPackage, AmbiguousName, Limit, NotInProject, NotInManifest, NotPinned, NameTaken, WrongJulia, Memory}
 
 abbrev pub told_read : {T : Type 0} → Read T → Result T Status
 told_read (Ok value) = Ok value
 told_read (Err (missing path)) = Err (MissingFile path)
 told_read (Err (bad path cause)) = Err (BadFile path cause)
 
+-- the status that tells why a change of the project is refused
+abbrev pub change_status : ChangeRefusal → Status
+change_status (taken uuid) = NameTaken uuid
+change_status (unknown name) = UnknownName name
+change_status (unknown_package uuid) = UnknownPackage uuid
+change_status (ambiguous least next) = AmbiguousName least next
+change_status (not_in_project name) = NotInProject name
+change_status (not_in_manifest name) = NotInManifest name
+change_status (not_pinned name) = NotPinned name
+
 abbrev pub told_edit : Result Edited EditRefusal → Result Edited Status
 told_edit (Ok it) = Ok it
+told_edit (Err (refused refusal)) = Err (change_status refusal)
 told_edit (Err (wrong text)) = Err (WrongJulia text)
 told_edit (Err (to_fetch name)) = Err (NeedsFetch name)
 

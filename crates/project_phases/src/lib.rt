@@ -10,4 +10,4 @@ mod refusals;
 pub use booking::gather_book;
 pub use developing::{Wish, command_of};
 pub use editing::edit_project;
-pub use opening::{Opened, open_project};
+pub use opening::{Opened, begin_project, open_project};

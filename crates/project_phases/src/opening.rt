@@ -2,7 +2,6 @@
 ghost use Rattle.std.specs.Prelude.{◌≡◌, ◌≤◌, Ok, IfSome, IfOk, IfErr, MatchResult};
 ghost use Rattle.toml.specs.View.{table_view};
 ghost use Rattle.project_file.specs.Keys.{IsPlain};
-ghost use Rattle.registry_tables.specs.Answers.{Refuses as RefusesRead, ReadFaultRose as RoseReading};
 ghost use Rattle.home_files.specs.HomeFiles.{seen as seen_files};
 ghost use Rattle.command_answers.specs.Answers.{Refuses, ReadFaultRose, IsLate, IsUnprinted};
 ghost use Rattle.project_phases.specs.Phases as spec;
@@ -25,20 +24,20 @@ pub struct Opened {
     pub manifest: Manifest,
 }
 
-/// What the files of the active project and of its catalog say. The manifest is empty where it isn't there, and so is the
-/// project file where it is begun; else that file must be there.
+/// What the files of the active project and of its catalog say. The project file must be there, and the manifest where it is
+/// needed; one that isn't needed and isn't there is empty.
 ///
 /// Refusals, of which the first that is due comes: MissingFile and BadFile of the project file, the manifest, and the files
 /// of the catalog. ReadFault comes where the store fails, and want of memory is free.
 pub fn open_project<S: Store>(
     alloc: Global,
     place: &Place,
-    begun: bool,
+    needed: bool,
     store: &mut S,
 ) -> Result<Opened, Status>
     ensures told { IfSome (S.files store.old) (λ all. MatchResult result
-        (λ it. spec.opened_in begun all place.now ≡ Ok (spec.seen it))
-        (Refuses (spec.opened_in begun all place.now))) }
+        (λ it. spec.opened_in needed all place.now ≡ Ok (spec.seen it))
+        (Refuses (spec.opened_in needed all place.now))) }
     // `to_table` takes the project.
     ensures plain { IfOk result (λ it. IsPlain (table_view it.project.rest)) }
     ensures late { IfErr result IsLate }
@@ -48,7 +47,7 @@ pub fn open_project<S: Store>(
     ensures later { S.read_faults store.old ≤ S.read_faults store.new }
     ensures other { S.write_faults store.new ≡ S.write_faults store.old }
 {
-    match files_by(alloc, store, place, begun) {
+    match project_files(alloc, store, place, needed) {
         Ok(files) => of_files(alloc, place, store, files),
         Err(RegFault::ReadFault(path)) => Err(Status::ReadFault(path)),
         Err(RegFault::MissingFile(path)) => Err(Status::MissingFile(path)),
@@ -57,24 +56,33 @@ pub fn open_project<S: Store>(
     }
 }
 
-/// The two files of the active project.
-fn files_by<S: Store>(
+/// What the files of the active project and of its catalog say, where the project file is empty if it isn't there, and the
+/// manifest too.
+///
+/// Refusals, of which the first that is due comes: BadFile of the project file and the manifest, and MissingFile and BadFile of
+/// the files of the catalog. ReadFault comes where the store fails, and want of memory is free.
+pub fn begin_project<S: Store>(
     alloc: Global,
-    store: &mut S,
     place: &Place,
-    begun: bool,
-) -> Result<HomeFiles, RegFault>
-    ensures told { IfSome (S.files store.old) (λ all. MatchResult result (λ it. spec.files_by begun all place.now ≡ Ok (seen_files it)) (RefusesRead (spec.files_by begun all place.now))) }
+    store: &mut S,
+) -> Result<Opened, Status>
+    ensures told { IfSome (S.files store.old) (λ all. MatchResult result
+        (λ it. spec.begun_in all place.now ≡ Ok (spec.seen it))
+        (Refuses (spec.begun_in all place.now))) }
     ensures plain { IfOk result (λ it. IsPlain (table_view it.project.rest)) }
-    ensures fault { IfErr result (RoseReading (S.read_faults store.old) (S.read_faults store.new)) }
+    ensures late { IfErr result IsLate }
+    ensures unprinted { IfErr result IsUnprinted }
+    ensures fault { IfErr result (ReadFaultRose (S.read_faults store.old) (S.read_faults store.new)) }
     ensures files { S.files store.new ≡ S.files store.old }
     ensures later { S.read_faults store.old ≤ S.read_faults store.new }
     ensures other { S.write_faults store.new ≡ S.write_faults store.old }
 {
-    if begun {
-        begun_files(alloc, store, place)
-    } else {
-        project_files(alloc, store, place, false)
+    match begun_files(alloc, store, place) {
+        Ok(files) => of_files(alloc, place, store, files),
+        Err(RegFault::ReadFault(path)) => Err(Status::ReadFault(path)),
+        Err(RegFault::MissingFile(path)) => Err(Status::MissingFile(path)),
+        Err(RegFault::BadFile(path, cause)) => Err(Status::BadFile(path, cause)),
+        Err(RegFault::Memory) => Err(Status::Memory),
     }
 }
 
