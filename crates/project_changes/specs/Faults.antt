@@ -15,3 +15,25 @@ Refuses change (NotInProject name) = change ≡ Err (not_in_project name)
 Refuses change (NotInManifest name) = change ≡ Err (not_in_manifest name)
 Refuses change (NotPinned name) = change ≡ Err (not_pinned name)
 Refuses change Memory = Unit {0}
+
+-- the name is no dependency
+abbrev pub IsNotInProject : Text → ChangeFault → Type 0
+IsNotInProject name (NameTaken had) = ⊥
+IsNotInProject name (UnknownName text) = ⊥
+IsNotInProject name (UnknownPackage id) = ⊥
+IsNotInProject name (AmbiguousName least next) = ⊥
+IsNotInProject name (NotInProject text) = text ≡ name
+IsNotInProject name (NotInManifest text) = ⊥
+IsNotInProject name (NotPinned text) = ⊥
+IsNotInProject name Memory = Unit {0}
+
+-- the name has nothing that can be freed
+abbrev pub IsNotPinned : Text → ChangeFault → Type 0
+IsNotPinned name (NameTaken had) = ⊥
+IsNotPinned name (UnknownName text) = ⊥
+IsNotPinned name (UnknownPackage id) = ⊥
+IsNotPinned name (AmbiguousName least next) = ⊥
+IsNotPinned name (NotInProject text) = ⊥
+IsNotPinned name (NotInManifest text) = ⊥
+IsNotPinned name (NotPinned text) = text ≡ name
+IsNotPinned name Memory = Unit {0}

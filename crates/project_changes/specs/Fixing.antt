@@ -1,6 +1,6 @@
 -- What becomes of the fixed packages by `develop` and `free`; they stand in the order of their identifiers. (Own rules.)
 --     developed path project           what the folder at the path fixes, by its project file
---     with_fixed package fixed         the packages with this one, in place of another one of its identifier
+--     with_fixed given fixed         the packages with this one, in place of another one of its identifier
 --     without_fixed id fixed           the packages without the one of this identifier
 use Rattle.std.specs.Prelude.{Bool, not, List, ◌∷◌, ◌++◌, filter, Option, Some, None}
 use Rattle.std.specs.Ordering.{is_lt, is_gt}
@@ -33,7 +33,7 @@ abbrev pub is_another : Id → FixedSaid → Bool
 is_another id it = not (bytes_eq id it.uuid)
 
 abbrev pub with_fixed : FixedSaid → List FixedSaid → List FixedSaid
-with_fixed package fixed = filter (is_before package.uuid) fixed ++ package ∷ filter (is_behind package.uuid) fixed
+with_fixed given fixed = filter (is_before given.uuid) fixed ++ given ∷ filter (is_behind given.uuid) fixed
 
 abbrev pub without_fixed : Id → List FixedSaid → List FixedSaid
 without_fixed id fixed = filter (is_another id) fixed

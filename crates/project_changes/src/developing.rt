@@ -27,19 +27,22 @@ pub fn developed(
     path: &NormPath,
     folder: Project,
 ) -> Result<Option<Fixed>, AllocError>
-    ensures { IfOk result (λ package. option_map fixed_said package ≡ fixing.developed path.now (said_project folder)) }
+    ensures { IfOk result (λ found. option_map fixed_said found ≡ fixing.developed path.now (said_project folder)) }
 {
     let Project {
-        name: Some(name),
-        uuid: Some(uuid),
+        name,
+        uuid,
         version,
         deps,
         weakdeps,
         extensions,
         compat,
         ..
-    } = folder
-    else {
+    } = folder;
+    let Some(name) = name else {
+        return Ok(None);
+    };
+    let Some(uuid) = uuid else {
         return Ok(None);
     };
     Ok(Some(Fixed {

@@ -24,15 +24,15 @@ pub fn fixed_copy(alloc: Global, list: &FixedList) -> Result<FixedList, AllocErr
 pub fn with_fixed(
     alloc: Global,
     list: &FixedList,
-    package: Fixed,
+    given: Fixed,
 ) -> Result<FixedList, AllocError>
-    ensures { IfOk result (λ other. map fixed_said other.items ≡ spec.with_fixed (fixed_said package) (map fixed_said list.now.items)) }
+    ensures { IfOk result (λ other. map fixed_said other.items ≡ spec.with_fixed (fixed_said given) (map fixed_said list.now.items)) }
 {
     let items = list.items();
-    let uuid = package.uuid;
+    let uuid = given.uuid;
     let mut copies = Listed::make(alloc);
     push_before(alloc, &mut copies, items, &uuid)?;
-    copies.push(package)?;
+    copies.push(given)?;
     push_behind(alloc, &mut copies, items, &uuid)?;
     Ok(FixedList::of(copies))
 }

@@ -1,12 +1,11 @@
 //! What `free` takes away.
-ghost use Rattle.std.specs.Prelude.{◌≡◌, ℕ, ◌<◌, Some, Ok, Err, length, MatchResult, IfOk};
+ghost use Rattle.std.specs.Prelude.{◌≡◌, ℕ, ◌<◌, Some, Ok, length, MatchResult, IfOk};
 ghost use Rattle.project_file.specs.Edits.{has_name};
 ghost use Rattle.project_file.specs.Said.{said as said_project};
 ghost use Rattle.manifest_file.specs.Said.{said as said_manifest, said_stanza};
 ghost use Rattle.project_changes.specs.Stanzas as spec;
 ghost use Rattle.project_changes.specs.Stanzas.{IsWithin};
-ghost use Rattle.project_changes.specs.Refusals.{not_pinned};
-ghost use Rattle.project_changes.specs.Faults.{Refuses};
+ghost use Rattle.project_changes.specs.Faults.{Refuses, IsNotPinned};
 
 use crate::fault::{ChangeFault, stanza_fault};
 use crate::named::has;
@@ -32,7 +31,7 @@ pub enum Freed {
 /// Errors: NotInManifest exactly where no stanza has the name; AmbiguousName exactly where several have it; NotPinned exactly
 /// where one has it that isn't pinned, and the project has a source for the name or the origin is neither a path nor a
 /// repository; want of memory.
-pub fn freed(
+pub fn find_freed(
     alloc: Global,
     project: &Project,
     manifest: &Manifest,
@@ -91,7 +90,7 @@ fn fixes(origin: &Origin) -> bool
 }
 
 fn not_pinned(alloc: Global, name: &Name) -> ChangeFault
-    ensures { Refuses (Err (not_pinned name.now)) result }
+    ensures { IsNotPinned name.now result }
 {
     match name.copy(alloc) {
         Ok(name) => ChangeFault::NotPinned(name),

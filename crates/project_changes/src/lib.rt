@@ -15,6 +15,6 @@ pub use adding::add_words;
 pub use developing::{developed, set_package};
 pub use fault::ChangeFault;
 pub use fixing::{fixed_copy, with_fixed, without_fixed};
-pub use freeing::{Freed, freed};
+pub use freeing::{Freed, find_freed};
 pub use pinning::{pin, without_mark};
 pub use removing::remove_names;

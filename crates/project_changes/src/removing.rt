@@ -1,10 +1,9 @@
 //! Dependencies that are taken out of a project.
-ghost use Rattle.std.specs.Prelude.{◌≡◌, Ok, Err, OnOk, IfOk, MatchResult};
+ghost use Rattle.std.specs.Prelude.{◌≡◌, Ok, OnOk, IfOk, MatchResult};
 ghost use Rattle.toml.specs.View.{table_view};
 ghost use Rattle.project_file.specs.Said.{said as said_project};
 ghost use Rattle.project_changes.specs.Words as spec;
-ghost use Rattle.project_changes.specs.Refusals.{not_in_project};
-ghost use Rattle.project_changes.specs.Faults.{Refuses};
+ghost use Rattle.project_changes.specs.Faults.{Refuses, IsNotInProject};
 
 use crate::fault::ChangeFault;
 use pkg_world::{Duplicate, Name};
@@ -50,7 +49,7 @@ fn remove_name(alloc: Global, project: &mut Project, name: &Name) -> Result<(), 
 }
 
 fn not_in_project(alloc: Global, name: &Name) -> ChangeFault
-    ensures { Refuses (Err (not_in_project name.now)) result }
+    ensures { IsNotInProject name.now result }
 {
     match name.copy(alloc) {
         Ok(name) => ChangeFault::NotInProject(name),
