@@ -6,11 +6,12 @@ use Rattle.std.specs.declared.cmp.Ordering.{Ordering}
 use Rattle.std.specs.Ordering.{nat_cmp, is_lt, is_gt, ordering_reverse}
 use Rattle.std.specs.Cmp.Lexicographic.{slice_cmp, nat_list_cmp_total}
 use Rattle.std.specs.List.{AllByRecursion}
+use Rattle.std.specs.List.Sorted.{IsStrictlySortedBy}
 use Rattle.std.specs.Str.{bytes_eq}
 use Rattle.offer_terms.specs.ById.{AreRising}
 use Rattle.offer_terms.specs.Demanded.{FixedSaid, fixed_said}
 use Rattle.offer_terms.specs.declared.fixed.Fixed.{Fixed}
-use Rattle.project_changes.specs.Fixing.{with_fixed, without_fixed, is_before, is_behind, is_another}
+use Rattle.project_changes.specs.Fixing.{with_fixed, without_fixed, is_before, is_behind}
 
 abbrev c : List ℕ → List ℕ → Ordering
 c = slice_cmp nat_cmp
@@ -39,12 +40,12 @@ module _ (id : List ℕ) where
 
   all-behind : (xs : List (List ℕ)) → AllByRecursion (λ y. c id y ≡ Less) (filter behind xs)
   all-behind [] = tt
-  all-behind (x ∷ xs) = by (c x id) refl
+  all-behind (x ∷ xs) = by (c x id) refl (all-behind xs)
     where
-      by : (o : Ordering) → c x id ≡ o → AllByRecursion (λ y. c id y ≡ Less) (cond (is_gt o) (x ∷ filter behind xs) (filter behind xs))
-      by Less e = all-behind xs
-      by Equal e = all-behind xs
-      by Greater e = (turned x id Greater e, all-behind xs)
+      by : (o : Ordering) → c x id ≡ o → AllByRecursion (λ y. c id y ≡ Less) (filter behind xs) → AllByRecursion (λ y. c id y ≡ Less) (cond (is_gt o) (x ∷ filter behind xs) (filter behind xs))
+      by Less e more = more
+      by Equal e more = more
+      by Greater e more = (turned x id Greater e, more)
 
   none-before : (x : List ℕ) (xs : List (List ℕ)) → c id x ≡ Less → AllByRecursion (λ y. c x y ≡ Less) xs → filter before xs ≡ []
   none-before x [] above all = refl
@@ -53,17 +54,16 @@ module _ (id : List ℕ) where
       ap (λ o. cond (is_lt o) (y ∷ filter before ys) (filter before ys)) past ∙ none-before x ys above all.1
 
   pub rising-with : (xs : List (List ℕ)) → AreRising xs → AreRising (filter before xs ++ id ∷ filter behind xs)
+  unfolding IsStrictlySortedBy
   rising-with [] rise = (tt, tt)
-  rising-with (x ∷ xs) rise = by (c x id) refl
+  rising-with (x ∷ xs) rise = by (c x id) refl (rising-with xs rise.1)
     where
-      by : (o : Ordering) → c x id ≡ o → AreRising (cond (is_lt o) (x ∷ filter before xs) (filter before xs) ++ id ∷ cond (is_gt o) (x ∷ filter behind xs) (filter behind xs))
-      by Less e =
-          (
-            all-joined (λ y. c x y ≡ Less) (filter before xs) (id ∷ filter behind xs) (all-kept (λ y. c x y ≡ Less) before xs rise.0) (e, all-kept (λ y. c x y ≡ Less) behind xs rise.0),
-            rising-with xs rise.1,
-          )
-      by Equal e = rising-with xs rise.1
-      by Greater e =
+      by : (o : Ordering) → c x id ≡ o → AreRising (filter before xs ++ id ∷ filter behind xs)
+          → AreRising (cond (is_lt o) (x ∷ filter before xs) (filter before xs) ++ id ∷ cond (is_gt o) (x ∷ filter behind xs) (filter behind xs))
+      by Less e more =
+          (all-joined (λ y. c x y ≡ Less) (filter before xs) (id ∷ filter behind xs) (all-kept (λ y. c x y ≡ Less) before xs rise.0) (e, all-kept (λ y. c x y ≡ Less) behind xs rise.0), more)
+      by Equal e more = more
+      by Greater e more =
           let above : c id x ≡ Less = turned x id Greater e in
           subst (λ front. AreRising (front ++ id ∷ x ∷ filter behind xs)) (sym (none-before x xs above rise.0))
           ((above, all-behind xs), (all-kept (λ y. c x y ≡ Less) behind xs rise.0, IsStrictlySortedBy-filter c behind xs rise.1))

@@ -1,6 +1,6 @@
 -- What the faults of a change tell.
 use Rattle.std.specs.Prelude.{◌≡◌, Result, Err}
-use Rattle.offer_terms.specs.Offered.{Text, Id}
+use Rattle.offer_terms.specs.Offered.{Text}
 use Rattle.project_changes.specs.Refusals.{ChangeRefusal, taken, unknown, unknown_package, ambiguous, not_in_project, not_in_manifest, not_pinned}
 use Rattle.project_changes.specs.declared.fault.ChangeFault.{ChangeFault}
 use Rattle.project_changes.specs.declared.fault.ChangeFault.TheVariants.{NameTaken, UnknownName, UnknownPackage, AmbiguousName, NotInProject, NotInManifest, NotPinned, Memory}

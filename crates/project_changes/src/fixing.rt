@@ -21,11 +21,7 @@ pub fn fixed_copy(alloc: Global, list: &FixedList) -> Result<FixedList, AllocErr
 }
 
 /// A list of equal packages with this one, in place of another one of its identifier. The one error is want of memory.
-pub fn with_fixed(
-    alloc: Global,
-    list: &FixedList,
-    given: Fixed,
-) -> Result<FixedList, AllocError>
+pub fn with_fixed(alloc: Global, list: &FixedList, given: Fixed) -> Result<FixedList, AllocError>
     ensures { IfOk result (λ other. map fixed_said other.items ≡ spec.with_fixed (fixed_said given) (map fixed_said list.now.items)) }
 {
     let items = list.items();
@@ -72,11 +68,7 @@ fn push_behind(
 }
 
 /// A list of equal packages without the one of this identifier. The one error is want of memory.
-pub fn without_fixed(
-    alloc: Global,
-    list: &FixedList,
-    uuid: &Uuid,
-) -> Result<FixedList, AllocError>
+pub fn without_fixed(alloc: Global, list: &FixedList, uuid: &Uuid) -> Result<FixedList, AllocError>
     ensures { IfOk result (λ other. map fixed_said other.items ≡ spec.without_fixed uuid.now (map fixed_said list.now.items)) }
 {
     let items = list.items();

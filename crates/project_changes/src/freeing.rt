@@ -43,7 +43,13 @@ pub fn find_freed(
     ensures within { IfOk result (IsWithin (length manifest.now.stanzas.items)) }
 {
     match stanza_named(alloc, manifest, name) {
-        Ok(place) => freed_at(alloc, project, &manifest.stanzas.items()[place], place, name),
+        Ok(place) => freed_at(
+            alloc,
+            project,
+            &manifest.stanzas.items()[place],
+            place,
+            name,
+        ),
         Err(fault) => Err(stanza_fault(fault)),
     }
 }

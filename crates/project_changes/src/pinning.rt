@@ -68,11 +68,7 @@ fn given_or_own(
 }
 
 /// The manifest in which the stanza at the place isn't pinned. The one error is want of memory.
-pub fn without_mark(
-    alloc: Global,
-    manifest: Manifest,
-    place: usize,
-) -> Result<Manifest, AllocError>
+pub fn without_mark(alloc: Global, manifest: Manifest, place: usize) -> Result<Manifest, AllocError>
     requires { place < length manifest.stanzas.items }
     ensures { IfOk result (λ after. said_manifest after ≡ spec.without_mark (said_manifest manifest) place) }
 {

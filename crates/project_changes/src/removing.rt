@@ -14,11 +14,7 @@ use std::alloc::Global;
 /// by one, each on the project as the names before it left it. (Pkg, `rm`.)
 ///
 /// Errors: NotInProject, of the first name that is no dependency; want of memory.
-pub fn remove_names(
-    alloc: Global,
-    project: Project,
-    names: &[Name],
-) -> Result<Project, ChangeFault>
+pub fn remove_names(alloc: Global, project: Project, names: &[Name]) -> Result<Project, ChangeFault>
     ensures told { MatchResult result
         (λ after. spec.without_names (said_project project) names.now ≡ Ok (said_project after))
         (Refuses (spec.without_names (said_project project) names.now)) }
