@@ -14,7 +14,9 @@ ghost use Rattle.pkg_commands.specs.Demand as spec;
 use compat_spec::Spec;
 use manifest_file::{Manifest, Stanza};
 use offer_catalog::Catalog;
-use offer_terms::{Demand, FixedList, Selection, SpecId, SpecIds, VersionPair, VersionPairs, julia_uuid};
+use offer_terms::{
+    Demand, FixedList, Selection, SpecId, SpecIds, VersionPair, VersionPairs, julia_uuid,
+};
 use package_names::value_named;
 use pkg_world::{Duplicate, Listed, Name, NameIds, Named, Place};
 use project_file::{Project, SpecText};

@@ -132,7 +132,11 @@ fn fetched(
         (spec.Refuses (spec.fetched catalog.now place.now (seen_change changed))) }
     ensures rest { IfOk result (λ edited. table_view edited.project.rest ≡ table_view changed.project.rest) }
 {
-    match unfetched(&changed.project.sources, &changed.project.deps, changed.manifest.stanzas.items()) {
+    match unfetched(
+        &changed.project.sources,
+        &changed.project.deps,
+        changed.manifest.stanzas.items(),
+    ) {
         Some(name) => Err(to_fetch(alloc, name)),
         None => Ok(with_demand(alloc, changed, catalog, place)?),
     }

@@ -1,3 +1,3 @@
 mod Rising
-mod Refused
+pub mod Refused
 mod Places
