@@ -1,6 +1,6 @@
 -- What becomes of the fixed packages by `develop` and `free`; they stand in the order of their identifiers. (Own rules.)
 --     developed path project           what the folder at the path fixes, by its project file
---     with_fixed given fixed         the packages with this one, in place of another one of its identifier
+--     with_fixed given fixed           the packages with this one, in place of another one of its identifier
 --     without_fixed id fixed           the packages without the one of this identifier
 use Rattle.std.specs.Prelude.{Bool, not, List, ◌∷◌, ◌++◌, filter, Option, Some, None}
 use Rattle.std.specs.Ordering.{is_lt, is_gt}
