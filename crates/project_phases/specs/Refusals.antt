@@ -7,6 +7,8 @@ use Rattle.offer_catalog.specs.declared.fault.BookFault.{BookFault}
 use Rattle.offer_catalog.specs.declared.fault.BookFault.TheVariants as faults
 use Rattle.offer_book.specs.Gathered.{BookRefusal, unusable, unknown, too_many}
 use Rattle.project_changes.specs.Refusals.{ChangeRefusal, taken, unknown, unknown_package, ambiguous, not_in_project, not_in_manifest, not_pinned}
+use Rattle.pkg_commands.specs.declared.fault.EditFault.{EditFault}
+use Rattle.pkg_commands.specs.declared.fault.EditFault.TheVariants as edits
 use Rattle.pkg_commands.specs.Edit.{Edited, EditRefusal, refused, wrong, to_fetch}
 use Rattle.command_answers.specs.declared.status.Status.{Status}
 use Rattle.command_answers.specs.declared.status.Status.TheVariants.{MissingFile, BadFile, NeedsFetch, ReadFault, UnknownName, UnknownPackage, AmbiguousName, Limit, NotInProject, NotInManifest, NotPinned, NameTaken, WrongJulia, Memory}
@@ -56,3 +58,23 @@ unknown_in (faults.BadFile path cause) = None
 unknown_in (faults.UnknownPackage uuid) = Some uuid
 unknown_in (faults.Limit kind count) = None
 unknown_in faults.Memory = None
+
+-- the status that tells a fault of an edit
+abbrev pub edit_status : EditFault → Status
+edit_status (edits.NameTaken uuid) = NameTaken uuid
+edit_status (edits.UnknownName name) = UnknownName name
+edit_status (edits.UnknownPackage uuid) = UnknownPackage uuid
+edit_status (edits.AmbiguousName least next) = AmbiguousName least next
+edit_status (edits.NotInProject name) = NotInProject name
+edit_status (edits.NotInManifest name) = NotInManifest name
+edit_status (edits.NotPinned name) = NotPinned name
+edit_status (edits.WrongJulia text) = WrongJulia text
+edit_status (edits.NeedsFetch name) = NeedsFetch name
+edit_status edits.Memory = Memory
+
+-- the same of a fault that tells identifiers
+abbrev pub identity_status : EditFault → Option Status
+identity_status (edits.NameTaken uuid) = Some (NameTaken uuid)
+identity_status (edits.UnknownPackage uuid) = Some (UnknownPackage uuid)
+identity_status (edits.AmbiguousName least next) = Some (AmbiguousName least next)
+identity_status _ = None

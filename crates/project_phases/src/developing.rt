@@ -43,11 +43,7 @@ pub fn command_of<S: Store>(alloc: Global, store: &mut S, wish: Wish) -> Result<
 }
 
 /// The command that develops the package of a folder.
-fn develop_folder<S: Store>(
-    alloc: Global,
-    store: &mut S,
-    path: NormPath,
-) -> Result<Command, Status>
+fn develop_folder<S: Store>(alloc: Global, store: &mut S, path: NormPath) -> Result<Command, Status>
     ensures told { IfSome (S.files store.old) (λ all. MatchResult result
         (λ command. spec.command_in all (spec.folder path) ≡ Ok (said_command command))
         (Refuses (spec.command_in all (spec.folder path)))) }

@@ -8,10 +8,11 @@ ghost use Rattle.pkg_commands.specs.Commands.{said_command};
 ghost use Rattle.pkg_commands.specs.Edit.{seen, edited as edit_meant};
 ghost use Rattle.project_phases.specs.Refusals.{told_edit};
 
+use crate::refusals::edit_status;
 use command_answers::Status;
 use manifest_file::Manifest;
 use offer_catalog::Catalog;
-use pkg_commands::{Command, EditFault, Edited, apply};
+use pkg_commands::{Command, Edited, apply};
 use pkg_world::Place;
 use project_file::Project;
 use std::alloc::Global;
@@ -38,15 +39,6 @@ pub fn edit_project(
 {
     match apply(alloc, command, project, manifest, catalog, place) {
         Ok(edited) => Ok(edited),
-        Err(EditFault::NameTaken(uuid)) => Err(Status::NameTaken(uuid)),
-        Err(EditFault::UnknownName(name)) => Err(Status::UnknownName(name)),
-        Err(EditFault::UnknownPackage(uuid)) => Err(Status::UnknownPackage(uuid)),
-        Err(EditFault::AmbiguousName(least, next)) => Err(Status::AmbiguousName(least, next)),
-        Err(EditFault::NotInProject(name)) => Err(Status::NotInProject(name)),
-        Err(EditFault::NotInManifest(name)) => Err(Status::NotInManifest(name)),
-        Err(EditFault::NotPinned(name)) => Err(Status::NotPinned(name)),
-        Err(EditFault::WrongJulia(text)) => Err(Status::WrongJulia(text)),
-        Err(EditFault::NeedsFetch(name)) => Err(Status::NeedsFetch(name)),
-        Err(EditFault::Memory) => Err(Status::Memory),
+        Err(fault) => Err(edit_status(fault)),
     }
 }
