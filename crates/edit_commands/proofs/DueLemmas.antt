@@ -1,12 +1,11 @@
 -- What is found by a book that was gathered is due by the offers of all packages.
-use Rattle.std.proofs.Common.{◌≡◌, ℕ, true, List, [], Result, Ok, Err, sym, subst}
-use Rattle.std.specs.Prelude.{Contains, is_some}
-use Rattle.jl_versions.specs.declared.version.Version.{Version}
+use Rattle.std.proofs.Common.{◌≡◌, ℕ, true, List, [], Result, Ok, Err, subst}
+use Rattle.std.specs.Prelude.{Contains}
 use Rattle.pkg_world.specs.Tree.{Files}
-use Rattle.offer_terms.specs.Offered.{Text, Id, Offering, Offers, Selected, cut_to}
+use Rattle.offer_terms.specs.Offered.{Text, Id, Offering, Selected, cut_to}
 use Rattle.offer_terms.specs.Booked.{Packed, book_offers}
 use Rattle.offer_terms.specs.Demanded.{Wanted}
-use Rattle.offer_terms.specs.Feasible.{IsFeasible, IsValid, CanRaise}
+use Rattle.offer_terms.specs.Feasible.{IsValid}
 use Rattle.offer_catalog.specs.SaidCatalog.{SaidCatalog}
 use Rattle.offer_book.specs.Scope.{scope}
 use Rattle.offer_book.specs.AllOffers.{all_offers}

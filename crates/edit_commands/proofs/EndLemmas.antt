@@ -1,7 +1,8 @@
 -- A refusal of a phase ends the command, and what follows a phase ends it otherwise.
-use Rattle.std.proofs.Common.{◌≡◌, List, [], Option, Some, None, IfSome, Result, Ok, Err, refl, sym, ap, subst}
+use Rattle.std.proofs.Common.{◌≡◌, ℕ, Bool, List, [], Option, Some, None, IfSome, Result, Ok, Err, refl, sym, ap, subst}
 use Rattle.pkg_world.specs.Each.{then_ok}
 use Rattle.pkg_world.specs.Tree.{Files}
+use Rattle.pkg_world.specs.declared.place.Place.{Place}
 use Rattle.registry_tables.specs.Answers.{missing, bad}
 use Rattle.offer_terms.specs.Offered.{Id}
 use Rattle.offer_terms.specs.Booked.{Packed}
@@ -16,9 +17,10 @@ use Rattle.command_answers.specs.Endings.{RefusesBy, EndsBy}
 use Rattle.command_answers.specs.declared.ending.Ending.{Ending}
 use Rattle.command_answers.specs.declared.status.Status.{Status}
 use Rattle.project_phases.specs.Refusals.{told_book}
-use Rattle.project_phases.specs.Phases.{booked_in}
+use Rattle.project_phases.specs.Phases.{SaidWish, booked_in}
 use Rattle.edit_commands.specs.Laws.{FoundIsDue}
-use Rattle.edit_commands.specs.EditDue.{Posed, question_of, posed_of, with_edit, IsFound, IsAnswerTo, IsAnswerOn}
+use Rattle.edit_commands.specs.Orders.{SaidOrder, begins, wish_of, options_of}
+use Rattle.edit_commands.specs.EditDue.{Posed, question_of, posed_of, posed_by, with_edit, IsDue, IsFound, IsAnswerTo, IsAnswerOn}
 use Rattle.edit_commands.specs.declared.options.Options.{Options}
 
 -- what an equal refusal ends with
@@ -99,3 +101,12 @@ pub book_refuses : (told : Option Files) (catalog : SaidCatalog) (edit : Edited)
 book_refuses told catalog edit extra none o status h =
     phase_refuses told (λ files. booked_in files catalog edit.demand []) (λ files book. Ok (posed_of files catalog edit book)) o status
     (subst (λ ids. IfSome told (λ files. Refuses (booked_in files catalog edit.demand ids) status)) none h)
+
+-- what is due by the parts of an order is due by the order
+pub by_parts : (told : Option Files) (place : Place) (order : SaidOrder) (budget : ℕ) (begun : Bool) (wish : SaidWish) (o : Options) → begun ≡ begins order → wish ≡ wish_of order
+    → o ≡ options_of order budget → (answer : Result Ending Status) → IfSome told (λ files. EndsBy (IsAnswerOn (posed_by begun wish files place) o) answer)
+    → IfSome told (λ files. EndsBy (IsDue files place order budget) answer)
+by_parts told place order budget begun wish o b w same answer h =
+    subst (λ x. IfSome told (λ files. EndsBy (IsAnswerOn (posed_by (begins order) (wish_of order) files place) x) answer)) same
+    (subst (λ x. IfSome told (λ files. EndsBy (IsAnswerOn (posed_by (begins order) x files place) o) answer)) w
+    (subst (λ x. IfSome told (λ files. EndsBy (IsAnswerOn (posed_by x wish files place) o) answer)) b h))

@@ -1,8 +1,7 @@
 -- The logs of a search are such as a text can tell: so are the nodes of a walk, and to write them by the numbers before pruning
 -- keeps that.
-use Rattle.std.proofs.Common.{◌≡◌, ℕ, zero, suc, ◌+◌, ◌<◌, ◌≤◌, Bool, true, false, List, [], ◌∷◌, ◌++◌, length, get_or, take, map, Option, Some, None, refl, sym, ◌∙◌, ap, subst, arith, inl, inr, eqb}
-use Rattle.std.specs.Prelude.{◌^◌, sum, Contains}
-use Rattle.std.specs.List.{list_any}
+use Rattle.std.proofs.Common.{◌≡◌, ℕ, zero, suc, ◌+◌, ◌<◌, ◌≤◌, Bool, true, false, List, [], ◌∷◌, ◌++◌, length, get_or, take, Option, Some, None, refl, sym, ◌∙◌, ap, subst, arith, inl, inr, eqb}
+use Rattle.std.specs.Prelude.{◌^◌, Contains}
 use Rattle.std.proofs.lemmas.Bool.{cases_lt, and_parts, eqb-true, ne_eqb}
 use Rattle.std.proofs.lemmas.List.{get_or_default, get_or_past}
 use Rattle.std.proofs.lemmas.List.Sums.{get_or-le-sum_by}
@@ -24,7 +23,7 @@ use Rattle.log_text.specs.Text.{HasState, IsKind, IsNode, AreNodes, IsPrintable}
 use Rattle.decimation_repair.specs.Choice.{BeliefChoice}
 use Rattle.decimation_repair.specs.Laws.{ChoiceIsLawful}
 use Rattle.decimation_repair.specs.Walk.{Choice, IsChoice, Task, root, behind, Visits, dead, open_at, Walks}
-use Rattle.instance_search.specs.Searched.{Searches, at_once, by_walk, IsWalked}
+use Rattle.instance_search.specs.Searched.{Searches, at_once, by_walk}
 use Rattle.instance_search.specs.Written.{IsWritten}
 use Rattle.instance_search.specs.declared.answer.Answer.TheVariants.{Empty, Spent}
 

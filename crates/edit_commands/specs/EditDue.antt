@@ -87,8 +87,11 @@ with_wish files place wish it = then_ok (command_in files wish) (with_command fi
 abbrev pub opened_by : Bool → Files → Place → Result Opened Status
 opened_by begun files place = if begun then begun_in files place else opened_in false files place
 
+abbrev pub posed_by : Bool → SaidWish → Files → Place → Result Posed Status
+posed_by begun wish files place = then_ok (opened_by begun files place) (with_wish files place wish)
+
 abbrev pub posed_in : Files → Place → SaidOrder → Result Posed Status
-posed_in files place order = then_ok (opened_by (begins order) files place) (with_wish files place (wish_of order))
+posed_in files place order = posed_by (begins order) (wish_of order) files place
 
 -- ---- what is looked at after the search
 

@@ -1,5 +1,5 @@
 -- What is true of the answers that are due, in the subject's words.
-use Rattle.std.specs.Prelude.{◌≡◌, ℕ, ◌<◌, ◌≤◌, ◌^◌, List, [], ◌∷◌, Option, None, Some, Result, Ok, Err}
+use Rattle.std.specs.Prelude.{◌≡◌, ℕ, ◌<◌, ◌≤◌, ◌^◌, List, [], ◌∷◌, None, Some, Result, Ok, Err}
 use Rattle.jl_versions.specs.declared.version.Version.{Version}
 use Rattle.pkg_world.specs.Listing.{Listing}
 use Rattle.pkg_world.specs.Path.{Path}

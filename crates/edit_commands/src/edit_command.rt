@@ -57,9 +57,53 @@ pub fn write_project<S: Store>(
     ensures later { S.read_faults store.old ≤ S.read_faults store.new }
     ensures other { S.write_faults store.new ≡ S.write_faults store.old }
 {
-    let parts = parts_of(order, budget);
-    match opened_by(alloc, place, parts.begun, store) {
-        Ok(opened) => of_opened(alloc, place, &parts.options, parts.wish, store, opened),
+    of_parts(alloc, place, parts_of(order, budget), store)
+}
+
+/// The same by the parts of the order.
+fn of_parts<S: Store>(
+    alloc: Global,
+    place: &Place,
+    parts: Parts,
+    store: &mut S,
+) -> Result<Ending, Status>
+    ensures answer { IfSome (S.files store.old) (λ all. EndsBy (spec.IsAnswerOn (spec.posed_by parts.begun (said_wish parts.wish) all place.now) parts.options) result) }
+    ensures told { IfOk result TellsLate }
+    ensures late { IfErr result IsLate }
+    ensures unprinted { IfErr result IsUnprinted }
+    ensures fault { IfErr result (ReadFaultRose (S.read_faults store.old) (S.read_faults store.new)) }
+    ensures files { S.files store.new ≡ S.files store.old }
+    ensures later { S.read_faults store.old ≤ S.read_faults store.new }
+    ensures other { S.write_faults store.new ≡ S.write_faults store.old }
+{
+    let Parts {
+        begun,
+        options,
+        wish,
+    } = parts;
+    of_wish(alloc, place, begun, &options, wish, store)
+}
+
+/// The same by what is to be done with the project.
+fn of_wish<S: Store>(
+    alloc: Global,
+    place: &Place,
+    begun: bool,
+    options: &Options,
+    wish: Wish,
+    store: &mut S,
+) -> Result<Ending, Status>
+    ensures answer { IfSome (S.files store.old) (λ all. EndsBy (spec.IsAnswerOn (spec.posed_by begun (said_wish wish) all place.now) options.now) result) }
+    ensures told { IfOk result TellsLate }
+    ensures late { IfErr result IsLate }
+    ensures unprinted { IfErr result IsUnprinted }
+    ensures fault { IfErr result (ReadFaultRose (S.read_faults store.old) (S.read_faults store.new)) }
+    ensures files { S.files store.new ≡ S.files store.old }
+    ensures later { S.read_faults store.old ≤ S.read_faults store.new }
+    ensures other { S.write_faults store.new ≡ S.write_faults store.old }
+{
+    match opened_by(alloc, place, begun, store) {
+        Ok(opened) => of_opened(alloc, place, options, wish, store, opened),
         Err(status) => Err(status),
     }
 }
