@@ -1,13 +1,11 @@
 -- What is found by a book that was gathered is due by the offers of all packages.
-use Rattle.std.proofs.Common.{◌≡◌, ℕ, Bool, true, List, [], Result, Ok, Err, sym, subst}
-use Rattle.std.specs.Prelude.{Contains, is_some}
-use Rattle.jl_versions.specs.declared.version.Version.{Version}
-use Rattle.pkg_world.specs.Path.{Path}
+use Rattle.std.proofs.Common.{◌≡◌, ℕ, true, List, [], Result, Ok, Err, subst}
+use Rattle.std.specs.Prelude.{Contains}
 use Rattle.pkg_world.specs.Tree.{Files}
-use Rattle.offer_terms.specs.Offered.{Text, Id, Offering, Offers, Selected, cut_to}
+use Rattle.offer_terms.specs.Offered.{Text, Id, Offering, Selected, cut_to}
 use Rattle.offer_terms.specs.Booked.{Packed, book_offers}
 use Rattle.offer_terms.specs.Demanded.{Wanted}
-use Rattle.offer_terms.specs.Feasible.{IsFeasible, IsValid, CanRaise}
+use Rattle.offer_terms.specs.Feasible.{IsValid}
 use Rattle.offer_catalog.specs.SaidCatalog.{SaidCatalog}
 use Rattle.offer_book.specs.Scope.{scope}
 use Rattle.offer_book.specs.AllOffers.{all_offers}
@@ -19,17 +17,22 @@ use Rattle.instance_search.specs.declared.answer.Answer.TheVariants.{Empty, Spen
 use Rattle.book_graph.specs.StandsFor.{IsBook, Covers}
 use Rattle.resolve_core.specs.Resolved.{IsAnswer}
 use Rattle.resolve_core.specs.Laws.{ResolvedIsBest, UnsatisfiableIsNone, GivenUpIsSpent}
-use Rattle.command_answers.specs.Endings.{SaidEnding}
+use Rattle.pkg_commands.specs.Edit.{Edited}
+use Rattle.command_answers.specs.Endings.{SaidWrite, SaidEnding}
 use Rattle.command_answers.specs.declared.status.Status.{Status}
 use Rattle.command_answers.specs.declared.status.Status.TheVariants.{Ok as StatusOk, BadWords, MissingFile, BadFile, NeedsFetch, NoIdentity, NoSource, Unsatisfiable, GaveUp, ReadFault, WriteFault, Blocked, UnknownName, UnknownPackage, AmbiguousName, Limit, Differs, NotInProject, NotInManifest, NotPinned, NotAProject, NameTaken, WrongJulia, NotBuilt, Memory, SinkFault}
-use Rattle.edit_commands.specs.ResolveDue.{Question, Posed, question_of, IsFoundEnding, IsStopped, IsFound, IsEnding, IsNone, IsSpent, IsRefusal, IsAnswerTo}
+use Rattle.edit_commands.specs.EditDue.{Posed, question_of, posed_of, IsFoundEnding, IsFoundNone, IsFoundTold, IsStopped, IsFound, IsEnding, IsNone, IsSpent, IsToldNone, IsTold, IsRefusal, IsAnswerTo}
+use Rattle.edit_commands.specs.declared.options.Options.{Options}
 
 module _ (offers_law : BookOffersAreAll) (numbers_law : NumbersAreReached) (valid_law : ValidAlike) (raised_law : RaisedAlike) (cut_law : FeasibleInBook)
     (best_law : ResolvedIsBest) (none_law : UnsatisfiableIsNone) (spent_law : GivenUpIsSpent)
-    (files : Files) (catalog : SaidCatalog) (w : Wanted) (path : Path) (book : List Packed) (gathers : gathered files catalog (scope w) [] ≡ Ok book) (sound : IsBook book)
-    (budget : ℕ) where
+    (files : Files) (catalog : SaidCatalog) (edit : Edited) (book : List Packed) (gathers : gathered files catalog (scope edit.demand) [] ≡ Ok book) (sound : IsBook book)
+    (o : Options) where
+  abbrev w : Wanted
+  w = edit.demand
+
   abbrev over_all : Posed
-  over_all = record { offers = all_offers files catalog (scope w); question = question_of w path book }
+  over_all = posed_of files catalog edit book
 
   reached : (u : Id) → is_in book u ≡ true → IsReached (all_offers files catalog (scope w)) (scope w) [] u
   reached u here = (numbers_law files catalog (scope w) [] book u gathers).0 here
@@ -51,10 +54,10 @@ module _ (offers_law : BookOffersAreAll) (numbers_law : NumbersAreReached) (vali
     needs = λ u x d here there dep other. numbered d.1 (leads u x d here there dep);
   }
 
-  ending : (classes : Bool) (e : SaidEnding) → IsFoundEnding (question_of w path book) budget classes e → IsEnding over_all budget classes e
-  ending classes e found =
+  ending : (line : List ℕ) (writes : List SaidWrite) → IsFoundEnding (question_of edit catalog.home book) o line writes → IsEnding over_all o line writes
+  ending line writes found =
       let s : Selected = found.resolved.selection.items in
-      let best = best_law book w budget found.resolved sound covers found.tells.resolves in
+      let best = best_law book w o.budget found.resolved sound covers found.tells.resolves in
       let valid : IsValid (all_offers files catalog (scope w)) w s = (valid_law files catalog w [] book s gathers).0 best.0 in
       record {
         resolved = found.resolved;
@@ -63,21 +66,21 @@ module _ (offers_law : BookOffersAreAll) (numbers_law : NumbersAreReached) (vali
         best = λ u v can. best.1 u v ((raised_law files catalog w [] book s u v gathers valid).1 can);
       }
 
-  none : (log : Listing Node) → IsAnswer book w budget (Empty log) → IsNone over_all budget log
+  none : (log : Listing Node) → IsAnswer book w o.budget (Empty log) → IsNone over_all o log
   none log answer =
-      let law = none_law book w budget log sound answer in
+      let law = none_law book w o.budget log sound answer in
       record {
         answer = answer;
         certificate = law.1;
         none = λ s feasible. law.0 (cut_to (is_in book) s) (cut_law files catalog w [] book s gathers feasible);
       }
 
-  spent : (log : Listing Node) → IsAnswer book w budget (Spent log) → IsSpent over_all budget log
+  spent : (log : Listing Node) → IsAnswer book w o.budget (Spent log) → IsSpent over_all o log
   spent log answer =
-      let law = spent_law book w budget log answer in
+      let law = spent_law book w o.budget log answer in
       record { answer = answer; spent = law.0; below = law.1 }
 
-  refusal : (status : Status) → IsStopped (question_of w path book) budget status → IsRefusal over_all budget status
+  refusal : (status : Status) → IsStopped (question_of edit catalog.home book) o status → IsRefusal over_all o status
   refusal StatusOk h = h
   refusal (BadWords word) h = h
   refusal (MissingFile at) h = h
@@ -85,7 +88,7 @@ module _ (offers_law : BookOffersAreAll) (numbers_law : NumbersAreReached) (vali
   refusal (NeedsFetch name) h = h
   refusal (NoIdentity name) h = h
   refusal (NoSource uuid) h = h
-  refusal (Unsatisfiable log) h = none log h
+  refusal (Unsatisfiable log) h = (none log h.0, h.1)
   refusal (GaveUp log) h = spent log h
   refusal (ReadFault at) h = h
   refusal (WriteFault at) h = h
@@ -105,6 +108,38 @@ module _ (offers_law : BookOffersAreAll) (numbers_law : NumbersAreReached) (vali
   refusal Memory h = h
   refusal SinkFault h = h
 
-  pub due : (classes : Bool) (answer : Result SaidEnding Status) → IsFound (question_of w path book) budget classes answer → IsAnswerTo over_all budget classes answer
-  due classes (Ok e) h = ending classes e h
-  due classes (Err status) h = refusal status h
+  told_none : (status : Status) (writes : List SaidWrite) → IsFoundNone (question_of edit catalog.home book) o status writes → IsToldNone over_all o status writes
+  told_none StatusOk writes h = h
+  told_none (BadWords word) writes h = h
+  told_none (MissingFile at) writes h = h
+  told_none (BadFile at cause) writes h = h
+  told_none (NeedsFetch name) writes h = h
+  told_none (NoIdentity name) writes h = h
+  told_none (NoSource uuid) writes h = h
+  told_none (Unsatisfiable log) writes h = (none log h.0, h.1)
+  told_none (GaveUp log) writes h = h
+  told_none (ReadFault at) writes h = h
+  told_none (WriteFault at) writes h = h
+  told_none (Blocked at) writes h = h
+  told_none (UnknownName name) writes h = h
+  told_none (UnknownPackage uuid) writes h = h
+  told_none (AmbiguousName first second) writes h = h
+  told_none (Limit kind count) writes h = h
+  told_none (Differs difference) writes h = h
+  told_none (NotInProject name) writes h = h
+  told_none (NotInManifest name) writes h = h
+  told_none (NotPinned name) writes h = h
+  told_none (NotAProject path) writes h = h
+  told_none (NameTaken uuid) writes h = h
+  told_none (WrongJulia text) writes h = h
+  told_none (NotBuilt word) writes h = h
+  told_none Memory writes h = h
+  told_none SinkFault writes h = h
+
+  told : (it : Result (List ℕ) Status) (writes : List SaidWrite) → IsFoundTold (question_of edit catalog.home book) o it writes → IsTold over_all o it writes
+  told (Ok line) writes h = ending line writes h
+  told (Err status) writes h = told_none status writes h
+
+  pub due : (answer : Result SaidEnding Status) → IsFound (question_of edit catalog.home book) o answer → IsAnswerTo over_all o answer
+  due (Ok e) h = told e.told e.writes h
+  due (Err status) h = refusal status h

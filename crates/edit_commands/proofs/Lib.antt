@@ -1,3 +1,4 @@
+mod PrintableLemmas
 mod DueLemmas
 mod LawLemmas
 mod EndLemmas

@@ -1,2 +1,3 @@
-pub mod ResolveDue
+pub mod Orders
+pub mod EditDue
 pub mod Laws

@@ -1,11 +1,13 @@
-//! The commands that write: what the command `resolve` ends with.
+//! The commands that write: what each ends with.
 #![tactic(auto)]
 
 mod answering;
+mod edit_command;
 mod laws;
 mod options;
-mod resolve_command;
+mod order;
 mod telling;
 
-pub use laws::{ample_budget_suffices, ending_is_best, none_is_none};
-pub use resolve_command::resolve_project;
+pub use edit_command::write_project;
+pub use laws::{ample_budget_suffices, ending_is_best, logs_are_printable, none_is_none};
+pub use order::Order;

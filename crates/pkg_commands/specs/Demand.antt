@@ -1,5 +1,5 @@
 -- What a project demands of a selection (Pkg, Project.toml and Compatibility; pins and fixed packages are own rules).
---     demand_of catalog place project manifest     its roots, its compat, the pins, the fixed packages and Julia's version
+--     demand_of catalog place change     the roots of the changed project, its compat, the pins, the fixed packages and Julia's version
 use Rattle.std.specs.Prelude.{◌++◌, List, [], codes, filter, Option, None, option_map, if◌then◌else◌}
 use Rattle.std.specs.List.{filter_map}
 use Rattle.std.specs.Str.{bytes_eq}
@@ -9,13 +9,13 @@ use Rattle.pkg_world.specs.declared.place.Place.{Place}
 use Rattle.package_tables.specs.Row.{value_of}
 use Rattle.project_file.specs.Said as project
 use Rattle.project_file.specs.Spelled.{Spelled}
-use Rattle.manifest_file.specs.Saying as manifest
 use Rattle.manifest_file.specs.Saying.{SaidStanza}
 use Rattle.offer_terms.specs.Offered.{Text, Id, Selected, version_in}
 use Rattle.offer_terms.specs.Demanded.{Wanted}
 use Rattle.package_offers.specs.GivenOffers.{strong_deps}
 use Rattle.offer_catalog.specs.SaidCatalog.{SaidCatalog}
 use Rattle.offer_catalog.specs.Selected.{selected_by}
+use Rattle.pkg_commands.specs.Changes.{Changed}
 
 -- what compat says of a name; compat on `julia` is Julia's alone
 abbrev pub parts_on : List (Text × Spelled) → Text → Option (List Part)
@@ -40,13 +40,13 @@ abbrev pub pins_of : Selected → List SaidStanza → List (Id × Version)
 pins_of selected stanzas = filter_map (λ stanza. pin_on selected stanza.uuid) (filter (λ stanza. stanza.pinned) stanzas)
 
 -- roots are the dependencies that aren't weak, but for Julia and the project's own package; no version is held
-abbrev pub demand_of : SaidCatalog → Place → project.Said → manifest.Said → Wanted
-demand_of catalog place said found = record {
-  roots = strong_deps said.uuid said.weakdeps said.deps;
-  own = said.uuid;
-  compat = compat_of said;
-  pins = pins_of (selected_by catalog said.uuid found) found.stanzas;
+abbrev pub demand_of : SaidCatalog → Place → Changed → Wanted
+demand_of catalog place it = record {
+  roots = strong_deps it.project.uuid it.project.weakdeps it.project.deps;
+  own = it.project.uuid;
+  compat = compat_of it.project;
+  pins = pins_of (selected_by catalog it.project.uuid it.manifest) it.manifest.stanzas;
   held = [];
-  fixed = catalog.fixed;
+  fixed = it.fixed;
   julia = place.julia;
 }

@@ -1,3 +1,5 @@
+pub mod Commands
+pub mod Changes
 pub mod Demand
 pub mod Fetching
 pub mod Edit

@@ -5,32 +5,36 @@ ghost use Rattle.pkg_world.specs.ByName.{is_by_name};
 ghost use Rattle.package_tables.specs.Row.{value_of, is_absent};
 ghost use Rattle.project_file.specs.Said.{said as said_project};
 ghost use Rattle.manifest_file.specs.Said.{said as said_manifest, said_stanza};
-ghost use Rattle.offer_terms.specs.Demanded.{wanted, spec_entry, version_entry};
+ghost use Rattle.offer_terms.specs.Demanded.{wanted, fixed_said, spec_entry, version_entry};
 ghost use Rattle.package_offers.specs.GivenOffers.{strong_deps, may_be_needed};
 ghost use Rattle.package_offers.specs.RegistryOffers.{is_other};
+ghost use Rattle.pkg_commands.specs.Changes.{changed_to};
 ghost use Rattle.pkg_commands.specs.Demand as spec;
 
-use crate::fixed_copies::fixed_copy;
-use crate::named::value_named;
 use compat_spec::Spec;
 use manifest_file::{Manifest, Stanza};
 use offer_catalog::Catalog;
-use offer_terms::{Demand, Selection, SpecId, SpecIds, VersionPair, VersionPairs, julia_uuid};
+use offer_terms::{
+    Demand, FixedList, Selection, SpecId, SpecIds, VersionPair, VersionPairs, julia_uuid,
+};
+use package_names::value_named;
 use pkg_world::{Duplicate, Listed, Name, NameIds, Named, Place};
 use project_file::{Project, SpecText};
 use std::alloc::{AllocError, Global};
 use uuid::Uuid;
 
-/// The demand of a project, its manifest, the catalog of both and a place. The one error is want of memory.
+/// The demand of a changed project, its manifest and the fixed packages, by the catalog and a place. The one error is want of
+/// memory.
 #[tactic(auto, unfolding(project_file::specs::Said::said))]
 pub(crate) fn demand_of(
     alloc: Global,
     project: &Project,
     manifest: &Manifest,
+    fixed: FixedList,
     catalog: &Catalog,
     place: &Place,
 ) -> Result<Demand, AllocError>
-    ensures { IfOk result (λ demand. wanted demand ≡ spec.demand_of catalog.now place.now (said_project project.now) (said_manifest manifest.now)) }
+    ensures { IfOk result (λ demand. wanted demand ≡ spec.demand_of catalog.now place.now (changed_to (said_project project.now) (said_manifest manifest.now) (map fixed_said fixed.items))) }
 {
     let own = project.uuid;
     let selection = catalog.selection(alloc, manifest, own)?;
@@ -40,7 +44,7 @@ pub(crate) fn demand_of(
         compat: compat_of(alloc, project)?,
         pins: pins_of(alloc, &selection, manifest.stanzas.items())?,
         held: Listed::make(alloc),
-        fixed: fixed_copy(alloc, catalog.fixed())?,
+        fixed,
         julia: place.julia,
     })
 }

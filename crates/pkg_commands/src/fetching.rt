@@ -4,8 +4,8 @@ ghost use Rattle.std.specs.Option.{option_copied};
 ghost use Rattle.manifest_file.specs.Said.{said_stanza};
 ghost use Rattle.pkg_commands.specs.Fetching as spec;
 
-use crate::named::value_named;
 use manifest_file::{Origin, Stanza};
+use package_names::value_named;
 use pkg_world::{Name, NameIds};
 use project_file::{Source, SourceList};
 use uuid::Uuid;

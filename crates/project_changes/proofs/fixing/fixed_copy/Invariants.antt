@@ -1,0 +1,7 @@
+-- the packages so far, and those to come
+use Rattle.std.proofs.Common.{◌≡◌, ◌++◌, drop, map}
+use Rattle.offer_terms.specs.Demanded.{fixed_said}
+use Rattle.project_changes.proofs.fixing.fixed_copy.Given as goal
+
+abbrev pub invariant-loop-fixed : goal.invariant-loop-fixed
+invariant-loop-fixed l = map fixed_said l.items ≡ map fixed_said l.copies.items ++ map fixed_said (drop l.fixed-index l.items)
