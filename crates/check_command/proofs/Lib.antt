@@ -1,4 +1,6 @@
 mod LimitLemmas
 mod JudgeLemmas
-mod LiftLemmas
-mod RefusalLemmas
+mod DueLemmas
+mod PhaseLemmas
+mod LogLemmas
+mod LawLemmas

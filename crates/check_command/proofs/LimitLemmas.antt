@@ -11,11 +11,9 @@ use Rattle.version_graph.specs.declared.fault.GraphFault.TheVariants as instance
 use Rattle.book_graph.specs.StandsFor.{sizes_of, state_count}
 use Rattle.book_graph.specs.Limits.{IsPast, Fits}
 use Rattle.selection_check.specs.Raises.{HasFewOffers}
-use Rattle.command_answers.specs.declared.status.Status.{Status}
-use Rattle.check_command.specs.CheckDue.{Judged, IsAnswerOn}
-use Rattle.check_command.specs.CheckDue as spec
 use Rattle.command_answers.specs.Endings.{RefusesBy}
-use Rattle.check_command.specs.Refusals.{limit_status}
+use Rattle.command_answers.specs.declared.status.Status.{Status}
+use Rattle.check_command.specs.Limited.{IsJudgedBy, limit_status}
 
 -- no package has more offers than all have states
 few_offers : (book : List Packed) (p : ℕ) → sum (sizes_of book) ≤ 65536 → length (package_at book p).offers ≤ 65536
@@ -32,10 +30,12 @@ few_offers book p small = elim (cases_lt p (length book)) [
 pub has_few : (book : List Packed) (w : Wanted) → Fits book w → HasFewOffers book
 has_few book w fits p = let small = few_offers book p fits.small in omega (arith, small)
 
-too_much : (it : Judged) (fault : GraphFault) → IsPast it.book it.wanted fault → RefusesBy (IsAnswerOn (Ok it)) (limit_status fault)
-too_much it (instance.Limit kind count) past = inl (record { kind = kind; count = count; past = past; told = refl })
-too_much it instance.Memory past = tt
+too_much : (book : List Packed) (w : Wanted) (Grants : List ℕ → Type 0) (Denies : Status → Type 0) (fault : GraphFault) → IsPast book w fault
+    → RefusesBy (IsJudgedBy book w Grants Denies) (limit_status fault)
+too_much book w Grants Denies (instance.Limit kind count) past = inl (record { kind = kind; count = count; past = past; told = refl })
+too_much book w Grants Denies instance.Memory past = tt
 
 -- a limit that is passed is told
-pub limit_told : (it : Judged) (fault : GraphFault) (ended : Status) → IsPast it.book it.wanted fault → ended ≡ limit_status fault → RefusesBy (IsAnswerOn (Ok it)) ended
-limit_told it fault ended past same = subst (RefusesBy (IsAnswerOn (Ok it))) (sym same) (too_much it fault past)
+pub limit_told : (book : List Packed) (w : Wanted) (Grants : List ℕ → Type 0) (Denies : Status → Type 0) (fault : GraphFault) (ended : Status) → IsPast book w fault
+    → ended ≡ limit_status fault → RefusesBy (IsJudgedBy book w Grants Denies) ended
+limit_told book w Grants Denies fault ended past same = subst (RefusesBy (IsJudgedBy book w Grants Denies)) (sym same) (too_much book w Grants Denies fault past)

@@ -1,4 +1,6 @@
 pub mod Lines
+pub mod Limited
+pub mod ProofDue
 pub mod CheckDue
 pub mod Answered
-pub mod Refusals
+pub mod Laws

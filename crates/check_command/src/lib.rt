@@ -1,9 +1,14 @@
-//! The command `check`: whether what the manifest says is valid, and what could be raised.
+//! The command `check`: whether what the manifest says is valid, and what could be raised; or whether the log of a file shows
+//! that no selection is feasible.
 #![tactic(auto)]
 
 mod check_answer;
+mod claim;
 mod judging;
+mod laws;
+mod limits;
 mod lines;
-mod refusals;
+mod proving;
 
 pub use check_answer::check;
+pub use laws::refuted_is_none;

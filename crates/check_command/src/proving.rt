@@ -1,0 +1,108 @@
+//! The verdict on the log of a file, over the book.
+ghost use Rattle.std.specs.Prelude.{◌≡◌, ◌≤◌, Some, IfSome, IfErr, option_map};
+ghost use Rattle.pkg_world.specs.Tree.{holds, file_bytes};
+ghost use Rattle.offer_terms.specs.Booked.{book_offers};
+ghost use Rattle.offer_terms.specs.Demanded.{wanted};
+ghost use Rattle.book_graph.specs.Limits.{Fits};
+ghost use Rattle.command_answers.specs.Answers.{NoFault, ReadFaultRose, IsLate, IsUnprinted};
+ghost use Rattle.check_command.specs.ProofDue as spec;
+ghost use Rattle.check_command.specs.Answered.{AnswersBy};
+
+use crate::limits::limit_status;
+use crate::lines::refuted_line;
+use command_answers::{Difference, Status};
+use log_text::{LogFault, read_log};
+use offer_book::{Book, Demand};
+use pkg_world::{Bytes, Cause, NormPath, Store, Unread, file_at};
+use refutation_log::Log;
+use resolve_core::verify_log;
+use std::alloc::Global;
+
+/// The answer by the file at the path, where the instance of the book and the demand passes no limit.
+pub(crate) fn of_log<S: Store>(
+    alloc: Global,
+    store: &mut S,
+    demand: &Demand,
+    path: NormPath,
+    book: &Book,
+) -> Result<String, Status>
+    requires fits { Fits book.now (wanted demand.now) }
+    ensures answer { IfSome (S.files store.old) (λ all. AnswersBy (spec.IsLogJudged (book_offers book.now) (wanted demand.now) book.now path (file_bytes (holds path all))) result) }
+    ensures late { IfErr result IsLate }
+    ensures unprinted { IfErr result IsUnprinted }
+    ensures fault { IfErr result (ReadFaultRose (S.read_faults store.old) (S.read_faults store.new)) }
+    ensures files { S.files store.new ≡ S.files store.old }
+    ensures later { S.read_faults store.old ≤ S.read_faults store.new }
+    ensures other { S.write_faults store.new ≡ S.write_faults store.old }
+{
+    match file_at(alloc, store, &path) {
+        Ok(found) => of_file(alloc, demand, path, book, found),
+        Err(Unread::Failed(path)) => Err(Status::ReadFault(path)),
+        Err(Unread::Memory) => Err(Status::Memory),
+    }
+}
+
+/// The same by what the file holds, which may not be there.
+fn of_file(
+    alloc: Global,
+    demand: &Demand,
+    path: NormPath,
+    book: &Book,
+    found: Option<Bytes>,
+) -> Result<String, Status>
+    requires fits { Fits book.now (wanted demand.now) }
+    ensures answer { AnswersBy (spec.IsLogJudged (book_offers book.now) (wanted demand.now) book.now path (option_map (λ b. b.items) found)) result }
+    ensures late { IfErr result IsLate }
+    ensures unprinted { IfErr result IsUnprinted }
+    ensures fault { IfErr result NoFault }
+{
+    match found {
+        Some(bytes) => of_text(alloc, demand, path, book, bytes.items()),
+        None => Err(Status::MissingFile(path)),
+    }
+}
+
+/// The same by the text of the file.
+fn of_text(
+    alloc: Global,
+    demand: &Demand,
+    path: NormPath,
+    book: &Book,
+    text: &[u8],
+) -> Result<String, Status>
+    requires fits { Fits book.now (wanted demand.now) }
+    ensures answer { AnswersBy (spec.IsLogJudged (book_offers book.now) (wanted demand.now) book.now path (Some text.now)) result }
+    ensures late { IfErr result IsLate }
+    ensures unprinted { IfErr result IsUnprinted }
+    ensures fault { IfErr result NoFault }
+{
+    match read_log(alloc, text) {
+        Ok(log) => of_nodes(alloc, demand, path, book, &log),
+        Err(LogFault::BadLog(line)) => Err(Status::BadFile(path, Cause::BadLog(line))),
+        Err(LogFault::Memory) => Err(Status::Memory),
+    }
+}
+
+/// The same by the log that was read.
+fn of_nodes(
+    alloc: Global,
+    demand: &Demand,
+    path: NormPath,
+    book: &Book,
+    log: &Log,
+) -> Result<String, Status>
+    requires fits { Fits book.now (wanted demand.now) }
+    ensures answer { AnswersBy (spec.AreNodesJudged (book_offers book.now) (wanted demand.now) book.now path log.now.items) result }
+    ensures late { IfErr result IsLate }
+    ensures unprinted { IfErr result IsUnprinted }
+    ensures fault { IfErr result NoFault }
+{
+    match verify_log(alloc, book, demand, log) {
+        Ok(true) => match refuted_line(alloc) {
+            Ok(line) => Ok(line),
+            Err(_) => Err(Status::Memory),
+        },
+        Ok(false) => Err(Status::Differs(Difference::Log(path))),
+        Err(fault) => Err(limit_status(fault)),
+    }
+}
