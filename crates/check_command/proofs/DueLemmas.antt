@@ -52,7 +52,7 @@ module _ (valid_law : ValidAlike) (raised_law : RaisedAlike) (cut_law : Feasible
 
   refuted : (log : List Node) (line : List ℕ) → IsRefuted (book_offers book) w book log line → IsRefuted (all_offers files catalog (scope w)) w book log line
   refuted log line is = record {
-    accepted = is.accepted;
+    certified = is.certified;
     none = λ s feasible. is.none (cut_to (is_in book) s) (cut_law files catalog w extra book s gathers feasible);
     told = is.told;
   }

@@ -1,20 +1,29 @@
 -- What is due on a log where the phases before it are not refused.
-use Rattle.std.proofs.Common.{◌≡◌, ℕ, true, List, Option, Some, None, Result, Ok, Err, refl, subst}
+use Rattle.std.proofs.Common.{◌≡◌, ℕ, true, List, Option, Some, None, Result, Ok, Err, refl, sym, ap, subst, inl, inr, arith}
 use Rattle.pkg_world.specs.Each.{then_ok}
 use Rattle.pkg_world.specs.Path.{Path}
 use Rattle.pkg_world.specs.Tree.{Files, holds, file_bytes}
 use Rattle.pkg_world.specs.declared.place.Place.{Place}
+use Rattle.pkg_world.specs.declared.cause.LimitKind.{LimitKind}
+use Rattle.pkg_world.specs.declared.cause.LimitKind.TheVariants.{Packages, States, Bits, Cells, TreeDepth, TreeFiles}
 use Rattle.offer_terms.specs.Demanded.{Wanted}
 use Rattle.offer_terms.specs.Booked.{Packed}
 use Rattle.offer_catalog.specs.SaidCatalog.{SaidCatalog}
 use Rattle.offer_book.specs.Scope.{scope}
 use Rattle.offer_book.specs.AllOffers.{all_offers}
 use Rattle.pkg_commands.specs.declared.command.Command.TheVariants.{Resolve}
+use Rattle.version_graph.specs.declared.fault.GraphFault.TheVariants as instance
+use Rattle.book_graph.specs.Laws.{SumsAreOne}
+use Rattle.book_graph.specs.Limits.{IsPast, Fits}
+use Rattle.refutation_log.specs.declared.node.Node.{Node}
+use Rattle.log_text.specs.Laws.{TextOfOne}
+use Rattle.log_text.specs.Text.{IsTextOf}
 use Rattle.command_answers.specs.declared.status.Status.{Status}
 use Rattle.project_phases.specs.Phases.{Opened, opened_in, edited_as, booked_in}
 use Rattle.check_command.specs.CheckDue.{Claim, claims_none, Judged, judged_of, checked_in, with_opened, with_claim, with_demand, IsClaimJudged, IsAnswerOn, IsDue}
 use Rattle.check_command.specs.Laws.{HasNone}
-use Rattle.check_command.specs.ProofDue.{IsProved, IsLogJudged}
+use Rattle.check_command.specs.Lines.{refuted_line}
+use Rattle.check_command.specs.ProofDue.{Certifies, IsProved, IsLogJudged}
 
 -- what is judged claims what was asked
 abbrev Claims : Claim → Result Judged Status → Type 0
@@ -49,7 +58,7 @@ by_file files place path line it is (Some text) there proved = record {
   file = there;
   log = proved.log;
   read = proved.read;
-  accepted = proved.refuted.accepted;
+  certified = proved.refuted.certified;
 }
 
 none_of : (files : Files) (place : Place) (path : Path) (line : List ℕ) (judged : Result Judged Status) → checked_in files place (Some path) ≡ judged → Claims (claims_none path) judged
@@ -61,3 +70,42 @@ none_of files place path line (Err refusal) is claims due = absurd (differ line 
 
 pub refuted_none : (files : Files) (place : Place) (path : Path) (line : List ℕ) → IsDue files place (Some path) (Ok line) → HasNone files place path
 refuted_none files place path line due = none_of files place path line (checked_in files place (Some path)) refl (checked_claims files place path) due
+
+-- ---- a certificate is refuted
+
+-- where no limit is passed, none is
+within : SumsAreOne → (book : List Packed) (w : Wanted) → Fits book w → (kind : LimitKind) (count : ℕ) → IsPast book w (instance.Limit kind count) → ⊥
+within law book w fits Packages count past = let few = fits.few in omega (arith, few, past.0)
+within law book w fits States count past = let small = fits.small in omega (arith, small, past.1)
+within law book w fits Bits count past =
+    let same = (law book w past.1.graph fits.sums.graph past.1.stands fits.sums.stands).0 in
+    let over = past.1.says.0 in
+    let under = fits.sums.says.0 in
+    omega (arith, same, over, under)
+within law book w fits Cells count past =
+    let same = (law book w past.1.graph fits.sums.graph past.1.stands fits.sums.stands).1 in
+    let over = past.1.says.1 in
+    let under = fits.sums.says.1 in
+    omega (arith, same, over.0, under)
+within law book w fits TreeDepth count past = past
+within law book w fits TreeFiles count past = past
+
+module _ (sums_law : SumsAreOne) (text_law : TextOfOne) (it : Judged) (path : Path) (text : List ℕ) (log : List Node) (fits : Fits it.book it.wanted) (read : IsTextOf text log)
+    (certified : Certifies it.book it.wanted log) where
+  alone : (answer : Result (List ℕ) Status) → IsLogJudged it.offers it.wanted it.book path (Some text) answer → answer ≡ Ok refuted_line
+  alone (Ok line) (small, proof) = ap Ok proof.refuted.told
+  alone (Err status) (inl past) = absurd (within sums_law it.book it.wanted fits past.kind past.count past.past)
+  alone (Err status) (inr (small, inl bad)) = absurd (bad.bad.refused (log, read))
+  alone (Err status) (inr (small, inr other)) =
+      absurd (other.unrefuted.uncertified (subst (Certifies it.book it.wanted) (text_law text log other.log read other.read) certified))
+
+pub certified_refuted : SumsAreOne → TextOfOne → (files : Files) (place : Place) (path : Path) (it : Judged) (text : List ℕ) (log : List Node) (answer : Result (List ℕ) Status)
+    → checked_in files place (Some path) ≡ Ok it → Fits it.book it.wanted → file_bytes (holds path files) ≡ Some text → IsTextOf text log → Certifies it.book it.wanted log
+    → IsDue files place (Some path) answer → answer ≡ Ok refuted_line
+certified_refuted sums_law text_law files place path it text log answer is fits there read certified due =
+    let judged : IsAnswerOn files (Ok it) answer = subst (λ r. IsAnswerOn files r answer) is due in
+    let claims : it.claim ≡ claims_none path = subst (Claims (claims_none path)) is (checked_claims files place path) in
+    let here : IsClaimJudged files it (claims_none path) answer = subst (λ claim. IsClaimJudged files it claim answer) claims judged in
+    let by_text : IsLogJudged it.offers it.wanted it.book path (Some text) answer =
+    subst (λ file. IsLogJudged it.offers it.wanted it.book path file answer) there here in
+    alone sums_law text_law it path text log fits read certified answer by_text

@@ -11,10 +11,12 @@ use Rattle.offer_catalog.specs.SaidCatalog.{SaidCatalog}
 use Rattle.offer_book.specs.Scope.{scope}
 use Rattle.offer_book.specs.AllOffers.{all_offers}
 use Rattle.offer_book.specs.Gathered.{gathered}
+use Rattle.book_graph.specs.Limits.{Fits}
 use Rattle.refutation_log.specs.declared.node.Node.{Node}
 use Rattle.log_text.specs.Text.{IsTextOf}
-use Rattle.resolve_core.specs.Resolved.{IsVerdict}
 use Rattle.command_answers.specs.declared.status.Status.{Status}
+use Rattle.check_command.specs.Lines.{refuted_line}
+use Rattle.check_command.specs.ProofDue.{Certifies}
 use Rattle.check_command.specs.CheckDue.{Claim, Judged, extra_of, judged_of, judged_by, checked_in, IsJudgement, IsDue}
 
 -- no selection is feasible for the offers of the files and the demand of the project, and the file tells a log that shows it
@@ -26,11 +28,18 @@ pub record HasNone (files : Files) (place : Place) (path : Path) : Type 0 where
   pub file : file_bytes (holds path files) ≡ Some text
   pub log : List Node
   pub read : IsTextOf text log
-  pub accepted : IsVerdict it.book it.wanted log true
+  pub certified : Certifies it.book it.wanted log
 
 -- so it is where a line is due on a log, whoever made it
 abbrev pub RefutedIsNone : Type 0
 RefutedIsNone = (files : Files) (place : Place) (path : Path) (line : List ℕ) → IsDue files place (Some path) (Ok line) → HasNone files place path
+
+-- where the file tells a log that refutes an instance which stands for the book and the demand, and no limit is passed, nothing
+-- else is due than that it is refuted
+abbrev pub CertificateIsRefuted : Type 0
+CertificateIsRefuted = (files : Files) (place : Place) (path : Path) (it : Judged) (text : List ℕ) (log : List Node) (answer : Result (List ℕ) Status)
+    → checked_in files place (Some path) ≡ Ok it → Fits it.book it.wanted → file_bytes (holds path files) ≡ Some text → IsTextOf text log → Certifies it.book it.wanted log
+    → IsDue files place (Some path) answer → answer ≡ Ok refuted_line
 
 -- ---- what is judged by the book that was gathered for the demand is due by the offers of all packages
 

@@ -3,17 +3,19 @@
 --     IsLogJudged o w book path file answer     this answer is due on the bytes of the file at the path, where one is there
 -- A file that isn't there is missing, and so is one in whose place a folder stands; then comes the first bad line of a text that
 -- is that of no log; and then a log that doesn't refute the instance of the book and the demand differs.
-use Rattle.std.specs.Prelude.{◌≡◌, ◌⊎◌, ℕ, true, false, List, Option, Some, None, Result}
+use Rattle.std.specs.Prelude.{◌≡◌, ◌⊎◌, ℕ, List, Option, Some, None, Result}
 use Rattle.pkg_world.specs.Path.{Path}
 use Rattle.pkg_world.specs.declared.cause.Cause.TheVariants.{BadLog}
 use Rattle.offer_terms.specs.Offered.{Offers, Selected}
 use Rattle.offer_terms.specs.Booked.{Packed}
 use Rattle.offer_terms.specs.Demanded.{Wanted}
 use Rattle.offer_terms.specs.Feasible.{IsFeasible}
+use Rattle.version_graph.specs.Graph.{Graph}
 use Rattle.refutation_log.specs.declared.node.Node.{Node}
+use Rattle.refutation_log.specs.Refutes.{IsRefutation}
+use Rattle.book_graph.specs.StandsFor.{StandsFor}
 use Rattle.log_text.specs.Text.{IsTextOf, IsLogText}
 use Rattle.log_text.specs.Bad.{IsFirstBadLine}
-use Rattle.resolve_core.specs.Resolved.{IsVerdict}
 use Rattle.command_answers.specs.declared.status.Difference.TheVariants.{Log}
 use Rattle.command_answers.specs.declared.status.Status.{Status}
 use Rattle.command_answers.specs.declared.status.Status.TheVariants.{MissingFile, BadFile, Differs}
@@ -22,15 +24,21 @@ use Rattle.check_command.specs.Lines.{refuted_line}
 
 -- ---- a log that was read
 
--- it refutes an instance that stands for the book and the demand, and no selection is feasible over the offers
+-- it refutes an instance that stands for the book and the demand
+pub record Certifies (book : List Packed) (w : Wanted) (log : List Node) : Type 0 where
+  pub graph : Graph
+  pub stands : StandsFor book w graph
+  pub refutes : IsRefutation graph log
+
+-- so it does, and no selection is feasible over the offers
 pub record IsRefuted (o : Offers) (w : Wanted) (book : List Packed) (log : List Node) (line : List ℕ) : Type 0 where
-  pub accepted : IsVerdict book w log true
+  pub certified : Certifies book w log
   pub none : (s : Selected) → IsFeasible o w s → ⊥
   pub told : line ≡ refuted_line
 
--- it doesn't, and the path of its file is told
+-- it refutes none that stands for them, and the path of its file is told
 pub record IsUnrefuted (w : Wanted) (book : List Packed) (path : Path) (log : List Node) (status : Status) : Type 0 where
-  pub refused : IsVerdict book w log false
+  pub uncertified : Certifies book w log → ⊥
   pub told : status ≡ Differs (Log path)
 
 -- ---- the text of a file

@@ -11,4 +11,4 @@ mod lines;
 mod proving;
 
 pub use check_answer::check;
-pub use laws::refuted_is_none;
+pub use laws::{certificate_is_refuted, refuted_is_none};

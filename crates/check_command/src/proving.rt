@@ -1,21 +1,23 @@
 //! The verdict on the log of a file, over the book.
-ghost use Rattle.std.specs.Prelude.{◌≡◌, ◌≤◌, Some, IfSome, IfErr, option_map};
+ghost use Rattle.std.specs.Prelude.{◌≡◌, ◌≤◌, true, Some, IfSome, IfOk, IfErr, MatchBool, option_map};
 ghost use Rattle.pkg_world.specs.Tree.{holds, file_bytes};
 ghost use Rattle.offer_terms.specs.Booked.{book_offers};
 ghost use Rattle.offer_terms.specs.Demanded.{wanted};
-ghost use Rattle.book_graph.specs.Limits.{Fits};
+ghost use Rattle.book_graph.specs.Limits.{Fits, IsPast};
+ghost use Rattle.resolve_core.specs.Laws.{NoneFeasible};
 ghost use Rattle.command_answers.specs.Answers.{NoFault, ReadFaultRose, IsLate, IsUnprinted};
 ghost use Rattle.check_command.specs.ProofDue as spec;
 ghost use Rattle.check_command.specs.Answered.{AnswersBy};
 
 use crate::limits::limit_status;
 use crate::lines::refuted_line;
+use alike_refutations::refuted_alike;
 use command_answers::{Difference, Status};
 use log_text::{LogFault, read_log};
 use offer_book::{Book, Demand};
 use pkg_world::{Bytes, Cause, NormPath, Store, Unread, file_at};
 use refutation_log::Log;
-use resolve_core::verify_log;
+use resolve_core::{VerifyFault, verify_log};
 use std::alloc::Global;
 
 /// The answer by the file at the path, where the instance of the book and the demand passes no limit.
@@ -97,7 +99,7 @@ fn of_nodes(
     ensures unprinted { IfErr result IsUnprinted }
     ensures fault { IfErr result NoFault }
 {
-    match verify_log(alloc, book, demand, log) {
+    match is_certificate(alloc, demand, book, log) {
         Ok(true) => match refuted_line(alloc) {
             Ok(line) => Ok(line),
             Err(_) => Err(Status::Memory),
@@ -105,4 +107,22 @@ fn of_nodes(
         Ok(false) => Err(Status::Differs(Difference::Log(path))),
         Err(fault) => Err(limit_status(fault)),
     }
+}
+
+/// Whether the log refutes the instance of the book and the demand, so that no selection is feasible. Refused where the instance
+/// passes a limit, and for want of memory.
+fn is_certificate(
+    alloc: Global,
+    demand: &Demand,
+    book: &Book,
+    log: &Log,
+) -> Result<bool, VerifyFault>
+    ensures verdict { IfOk result (λ is. MatchBool is
+        (spec.Certifies book.now (wanted demand.now) log.now.items)
+        (spec.Certifies book.now (wanted demand.now) log.now.items → ⊥)) }
+    ensures none { IfOk result (λ is. is ≡ true → NoneFeasible book.now (wanted demand.now)) }
+    ensures past { IfErr result (IsPast book.now (wanted demand.now)) }
+{
+    refuted_alike();
+    verify_log(alloc, book, demand, log)
 }
