@@ -14,7 +14,7 @@ use Rattle.offer_book.specs.Laws.{ValidAlike, RaisedAlike, FeasibleInBook, is_in
 use Rattle.refutation_log.specs.declared.node.Node.{Node}
 use Rattle.command_answers.specs.declared.status.Status.{Status}
 use Rattle.check_command.specs.CheckDue.{Claim, claims_valid, claims_none, Judged, extra_of, judged_of, judged_by, IsRaise, IsGood, IsBroken, IsSelectionJudged, IsJudgement}
-use Rattle.check_command.specs.ProofDue.{IsRefuted, IsProved, IsLogJudged}
+use Rattle.log_check.specs.LogDue.{IsRefuted, IsProved, IsLogJudged}
 
 module _ (valid_law : ValidAlike) (raised_law : RaisedAlike) (cut_law : FeasibleInBook) (files : Files) (catalog : SaidCatalog) (w : Wanted) (extra : List Id) (book : List Packed)
     (gathers : gathered files catalog (scope w) extra ≡ Ok book) where

@@ -22,8 +22,7 @@ use Rattle.command_answers.specs.declared.status.Status.{Status}
 use Rattle.project_phases.specs.Phases.{Opened, opened_in, edited_as, booked_in}
 use Rattle.check_command.specs.CheckDue.{Claim, claims_none, Judged, judged_of, checked_in, with_opened, with_claim, with_demand, IsClaimJudged, IsAnswerOn, IsDue}
 use Rattle.check_command.specs.Laws.{HasNone}
-use Rattle.check_command.specs.Lines.{refuted_line}
-use Rattle.check_command.specs.ProofDue.{Certifies, IsProved, IsLogJudged}
+use Rattle.log_check.specs.LogDue.{refuted_line, Certifies, IsProved, IsLogJudged}
 
 -- what is judged claims what was asked
 abbrev Claims : Claim → Result Judged Status → Type 0

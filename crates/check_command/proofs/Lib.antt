@@ -2,6 +2,4 @@ mod LimitLemmas
 mod JudgeLemmas
 mod DueLemmas
 mod PhaseLemmas
-mod AlikeLemmas
-mod LogLemmas
 mod LawLemmas

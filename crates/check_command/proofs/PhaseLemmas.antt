@@ -1,5 +1,5 @@
 -- A refusal of a phase ends the command, and what follows a phase ends it otherwise.
-use Rattle.std.proofs.Common.{◌≡◌, ℕ, List, Option, Some, None, IfSome, Result, Ok, Err, String, string_bytes, refl, sym, ap, subst}
+use Rattle.std.proofs.Common.{◌≡◌, ℕ, List, Option, Some, None, IfSome, Result, Ok, Err, String, refl, sym, ap, subst}
 use Rattle.std.specs.declared.alloc.Global.{Global}
 use Rattle.pkg_world.specs.Each.{then_ok}
 use Rattle.pkg_world.specs.Tree.{Files}
@@ -17,15 +17,10 @@ use Rattle.command_answers.specs.Endings.{RefusesBy}
 use Rattle.command_answers.specs.declared.status.Status.{Status}
 use Rattle.project_phases.specs.Refusals.{told_book}
 use Rattle.project_phases.specs.Phases.{booked_in}
-use Rattle.check_command.specs.Answered.{AnswersBy}
+use Rattle.log_check.specs.Answered.{AnswersBy}
+use Rattle.log_check.proofs.AnswerLemmas.{answers_as}
 use Rattle.check_command.specs.CheckDue.{Claim, Judged, extra_of, judged_of, judged_by, with_demand, IsJudgement, IsAnswerOn}
 use Rattle.check_command.specs.Laws.{JudgedIsDue}
-
--- an answer that is due by one relation is due by another
-pub answers_as : (One Other : Result (List ℕ) Status → Type 0) → ((answer : Result (List ℕ) Status) → One answer → Other answer) → (answer : Result (String Global) Status)
-    → AnswersBy One answer → AnswersBy Other answer
-answers_as One Other is (Ok text) h = is (Ok (string_bytes text)) h
-answers_as One Other is (Err status) h = refuses_as One Other (λ refusal. is (Err refusal)) status h
 
 -- what an equal refusal ends with
 ends : {T : Type 0} (files : Files) (phase : Result T Status) (next : T → Result Judged Status) (refusal : Status) → phase ≡ Err refusal

@@ -29,9 +29,9 @@ use Rattle.command_answers.specs.declared.status.Difference.TheVariants.{Broken}
 use Rattle.command_answers.specs.declared.status.Status.{Status}
 use Rattle.command_answers.specs.declared.status.Status.TheVariants.{Differs}
 use Rattle.project_phases.specs.Phases.{Opened, opened_in, edited_as, booked_in}
-use Rattle.check_command.specs.Limited.{IsJudgedBy}
+use Rattle.log_check.specs.Limited.{IsJudgedBy}
 use Rattle.check_command.specs.Lines.{good_text}
-use Rattle.check_command.specs.ProofDue.{IsLogJudged}
+use Rattle.log_check.specs.LogDue.{IsLogJudged}
 use Rattle.check_command.specs.declared.claim.Claim as code
 use Rattle.check_command.specs.declared.claim.Claim.TheVariants.{Valid, Refuted}
 

@@ -15,8 +15,7 @@ use Rattle.book_graph.specs.Limits.{Fits}
 use Rattle.refutation_log.specs.declared.node.Node.{Node}
 use Rattle.log_text.specs.Text.{IsTextOf}
 use Rattle.command_answers.specs.declared.status.Status.{Status}
-use Rattle.check_command.specs.Lines.{refuted_line}
-use Rattle.check_command.specs.ProofDue.{Certifies}
+use Rattle.log_check.specs.LogDue.{refuted_line, Certifies}
 use Rattle.check_command.specs.CheckDue.{Claim, Judged, extra_of, judged_of, judged_by, checked_in, IsJudgement, IsDue}
 
 -- no selection is feasible for the offers of the files and the demand of the project, and the file tells a log that shows it

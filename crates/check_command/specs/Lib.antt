@@ -1,6 +1,3 @@
 pub mod Lines
-pub mod Limited
-pub mod ProofDue
 pub mod CheckDue
-pub mod Answered
 pub mod Laws

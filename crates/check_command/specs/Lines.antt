@@ -1,5 +1,4 @@
--- The lines of `check`: `good`, then `raisable UUID VERSION` where a package can be raised; of `check --proof` the line `refuted`.
--- (own rule)
+-- The lines of `check`: `good`, then `raisable UUID VERSION` where a package can be raised. (own rule)
 use Rattle.std.specs.Prelude.{ℕ, List, [], ◌∷◌, ◌++◌, codes, Option, Some, None}
 use Rattle.uuid.specs.Text.{hyphenated_text, lower}
 use Rattle.jl_versions.specs.Printing.{printed}
@@ -16,6 +15,3 @@ raise_line uuid version = codes "raisable " ++ (hyphenated_text lower uuid ++ (c
 abbrev pub good_text : Option (Id × Version) → List ℕ
 good_text None = good_line
 good_text (Some raise) = good_line ++ raise_line raise.0 raise.1
-
-abbrev pub refuted_line : List ℕ
-refuted_line = codes "refuted" ++ 10 ∷ []

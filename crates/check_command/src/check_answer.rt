@@ -4,7 +4,7 @@ ghost use Rattle.offer_terms.specs.Demanded.{wanted};
 ghost use Rattle.project_phases.specs.Phases.{seen as seen_opened};
 ghost use Rattle.command_answers.specs.Answers.{ReadFaultRose, IsLate, IsUnprinted};
 ghost use Rattle.check_command.specs.CheckDue as spec;
-ghost use Rattle.check_command.specs.Answered.{AnswersBy};
+ghost use Rattle.log_check.specs.Answered.{AnswersBy};
 
 use crate::claim::{Claim, claim_of, extra_of};
 use crate::judging::of_book;

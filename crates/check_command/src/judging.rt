@@ -9,13 +9,12 @@ ghost use Rattle.selection_check.specs.Raises.{HasFewOffers};
 ghost use Rattle.selection_check.specs.Scratch.{IsScratchFor};
 ghost use Rattle.selection_check.specs.Verdicts.{IsFirstBreach};
 ghost use Rattle.check_command.specs.CheckDue as spec;
-ghost use Rattle.check_command.specs.Answered.{AnswersBy};
+ghost use Rattle.log_check.specs.Answered.{AnswersBy};
 ghost use Rattle.check_command.specs.Lines.{good_text};
 
 use crate::claim::Claim;
-use crate::limits::{limit_status, within_limits};
 use crate::lines::{good_line, raise_lines};
-use crate::proving::of_log;
+use log_check::{limit_status, log_verdict, within_limits};
 use command_answers::{Difference, Status};
 use offer_book::{Book, Demand, Selection};
 use pkg_world::Store;
@@ -62,7 +61,7 @@ fn of_claim<S: Store>(
 {
     match claim {
         Claim::Valid(selection) => judged(alloc, demand, &selection, book),
-        Claim::Refuted(path) => of_log(alloc, store, demand, path, book),
+        Claim::Refuted(path) => log_verdict(alloc, store, demand, path, book),
     }
 }
 

@@ -6,9 +6,7 @@ mod check_answer;
 mod claim;
 mod judging;
 mod laws;
-mod limits;
 mod lines;
-mod proving;
 
 pub use check_answer::check;
 pub use laws::{certificate_is_refuted, refuted_is_none};

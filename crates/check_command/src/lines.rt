@@ -14,13 +14,6 @@ pub(crate) fn good_line(alloc: Global) -> Result<String, AllocError>
     String::from_str(alloc, "good\n")
 }
 
-/// `refuted`. The one error is want of memory.
-pub(crate) fn refuted_line(alloc: Global) -> Result<String, AllocError>
-    ensures { IfOk result (λ text. string_bytes text ≡ spec.refuted_line) }
-{
-    String::from_str(alloc, "refuted\n")
-}
-
 /// `good`, and the line of a package that can be raised. The one error is want of memory.
 pub(crate) fn raise_lines(
     alloc: Global,

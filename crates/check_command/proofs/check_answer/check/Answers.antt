@@ -1,7 +1,7 @@
 -- by the files, or the first of them that is refused
 use Rattle.std.specs.Prelude.{true}
 use Rattle.project_phases.specs.Phases.{seen, opened_in}
-use Rattle.check_command.specs.Answered.{AnswersBy}
+use Rattle.log_check.specs.Answered.{AnswersBy}
 use Rattle.check_command.specs.CheckDue.{with_opened, IsAnswerOn}
 use Rattle.check_command.proofs.PhaseLemmas.{phase_refuses, phase_goes_on, as_before}
 use Rattle.check_command.proofs.check_answer.check.Goals as goal

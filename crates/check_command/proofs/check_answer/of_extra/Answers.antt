@@ -1,6 +1,6 @@
 -- by the book, or its refusal
 use Rattle.offer_terms.specs.Demanded.{wanted}
-use Rattle.check_command.specs.Answered.{AnswersBy}
+use Rattle.log_check.specs.Answered.{AnswersBy}
 use Rattle.check_command.specs.CheckDue.{judged_by, seen_claim, IsJudgement}
 use Rattle.check_command.proofs.PhaseLemmas.{book_refuses, by_gathered, as_before}
 use Rattle.check_command.proofs.check_answer.of_extra.Goals as goal

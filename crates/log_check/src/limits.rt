@@ -3,17 +3,17 @@ ghost use Rattle.std.specs.Prelude.{◌≡◌, IfErr, OnOk};
 ghost use Rattle.offer_terms.specs.Demanded.{wanted};
 ghost use Rattle.book_graph.specs.Limits.{IsPast, Fits};
 ghost use Rattle.command_answers.specs.Answers.{NoFault, IsLate, IsUnprinted};
-ghost use Rattle.check_command.specs.Limited as spec;
+ghost use Rattle.log_check.specs.Limited as spec;
 
 use book_graph::make_instance;
 use command_answers::Status;
-use offer_book::{Book, Demand};
+use offer_terms::{Book, Demand};
 use std::alloc::Global;
 use version_graph::GraphFault;
 
 /// Refused where the instance of the book and the demand passes a limit, and for want of memory. The instance is made for this
 /// alone.
-pub(crate) fn within_limits(alloc: Global, book: &Book, demand: &Demand) -> Result<(), GraphFault>
+pub fn within_limits(alloc: Global, book: &Book, demand: &Demand) -> Result<(), GraphFault>
     ensures fits { OnOk result (Fits book.now (wanted demand.now)) }
     ensures past { IfErr result (IsPast book.now (wanted demand.now)) }
 {
@@ -22,7 +22,7 @@ pub(crate) fn within_limits(alloc: Global, book: &Book, demand: &Demand) -> Resu
 }
 
 /// The status that tells why there is no instance.
-pub(crate) fn limit_status(fault: GraphFault) -> Status
+pub fn limit_status(fault: GraphFault) -> Status
     ensures told { result ≡ spec.limit_status fault }
     ensures late { IsLate result }
     ensures unprinted { IsUnprinted result }

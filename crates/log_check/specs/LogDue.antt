@@ -3,7 +3,7 @@
 --     IsLogJudged o w book path file answer     this answer is due on the bytes of the file at the path, where one is there
 -- A file that isn't there is missing, and so is one in whose place a folder stands; then comes the first bad line of a text that
 -- is that of no log; and then a log that doesn't refute the instance of the book and the demand differs.
-use Rattle.std.specs.Prelude.{◌≡◌, ◌⊎◌, ℕ, List, Option, Some, None, Result}
+use Rattle.std.specs.Prelude.{◌≡◌, ◌⊎◌, ℕ, List, [], ◌∷◌, ◌++◌, codes, Option, Some, None, Result}
 use Rattle.pkg_world.specs.Path.{Path}
 use Rattle.pkg_world.specs.declared.cause.Cause.TheVariants.{BadLog}
 use Rattle.offer_terms.specs.Offered.{Offers, Selected}
@@ -19,8 +19,10 @@ use Rattle.log_text.specs.Bad.{IsFirstBadLine}
 use Rattle.command_answers.specs.declared.status.Difference.TheVariants.{Log}
 use Rattle.command_answers.specs.declared.status.Status.{Status}
 use Rattle.command_answers.specs.declared.status.Status.TheVariants.{MissingFile, BadFile, Differs}
-use Rattle.check_command.specs.Limited.{IsJudgedBy}
-use Rattle.check_command.specs.Lines.{refuted_line}
+use Rattle.log_check.specs.Limited.{IsJudgedBy}
+
+abbrev pub refuted_line : List ℕ
+refuted_line = codes "refuted" ++ 10 ∷ []
 
 -- ---- a log that was read
 

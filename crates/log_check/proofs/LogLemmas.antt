@@ -10,9 +10,9 @@ use Rattle.book_graph.specs.Limits.{Fits}
 use Rattle.refutation_log.specs.declared.node.Node.{Node}
 use Rattle.log_text.specs.Text.{IsTextOf}
 use Rattle.command_answers.specs.declared.status.Status.{Status}
-use Rattle.check_command.specs.Answered.{AnswersBy}
-use Rattle.check_command.specs.ProofDue.{AreNodesJudged, IsLogJudged}
-use Rattle.check_command.proofs.PhaseLemmas.{answers_as}
+use Rattle.log_check.specs.Answered.{AnswersBy}
+use Rattle.log_check.specs.LogDue.{AreNodesJudged, IsLogJudged}
+use Rattle.log_check.proofs.AnswerLemmas.{answers_as}
 
 nodes : (o : Offers) (w : Wanted) (book : List Packed) (path : Path) (text : List ℕ) (log : List Node) → IsTextOf text log → (answer : Result (List ℕ) Status)
     → AreNodesJudged o w book path log answer → IsLogJudged o w book path (Some text) answer

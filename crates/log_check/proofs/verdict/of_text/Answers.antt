@@ -1,8 +1,8 @@
 -- by the log that the text tells
 use Rattle.offer_terms.specs.Booked.{book_offers}
 use Rattle.offer_terms.specs.Demanded.{wanted}
-use Rattle.check_command.proofs.LogLemmas.{by_nodes}
-use Rattle.check_command.proofs.proving.of_text.Goals as goal
+use Rattle.log_check.proofs.LogLemmas.{by_nodes}
+use Rattle.log_check.proofs.verdict.of_text.Goals as goal
 
 pub returns-in-Ok-clause-answer : goal.returns-in-Ok-clause-answer
 returns-in-Ok-clause-answer c =

@@ -8,7 +8,7 @@ use Rattle.refutation_log.specs.declared.node.Node.{Node}
 use Rattle.book_graph.specs.StandsFor.{StandsFor, state_count}
 use Rattle.resolve_core.specs.Resolved.{IsVerdict}
 use Rattle.alike_refutations.specs.Alike.{IsLike, RefutedAlike}
-use Rattle.check_command.specs.ProofDue.{Certifies}
+use Rattle.log_check.specs.LogDue.{Certifies}
 
 same_truth : {P : Type 0} (a b : Bool) → (a ≡ true) ↔ P → (b ≡ true) ↔ P → a ≡ b
 same_truth true true one other = refl

@@ -3,8 +3,8 @@ use Rattle.std.specs.Prelude.{option_map}
 use Rattle.pkg_world.specs.Tree.{holds, file_bytes}
 use Rattle.offer_terms.specs.Booked.{book_offers}
 use Rattle.offer_terms.specs.Demanded.{wanted}
-use Rattle.check_command.proofs.LogLemmas.{by_file}
-use Rattle.check_command.proofs.proving.of_log.Goals as goal
+use Rattle.log_check.proofs.LogLemmas.{by_file}
+use Rattle.log_check.proofs.verdict.log_verdict.Goals as goal
 
 pub returns-in-Ok-clause-answer : goal.returns-in-Ok-clause-answer
 returns-in-Ok-clause-answer g c =

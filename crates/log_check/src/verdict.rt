@@ -1,27 +1,31 @@
 //! The verdict on the log of a file, over the book.
-ghost use Rattle.std.specs.Prelude.{◌≡◌, ◌≤◌, true, Some, IfSome, IfOk, IfErr, MatchBool, option_map};
+ghost use Rattle.std.specs.Prelude.{◌≡◌, ◌≤◌, true, Some, IfSome, IfOk, IfErr, MatchBool, option_map, string_bytes};
 ghost use Rattle.pkg_world.specs.Tree.{holds, file_bytes};
 ghost use Rattle.offer_terms.specs.Booked.{book_offers};
 ghost use Rattle.offer_terms.specs.Demanded.{wanted};
 ghost use Rattle.book_graph.specs.Limits.{Fits, IsPast};
 ghost use Rattle.resolve_core.specs.Laws.{NoneFeasible};
 ghost use Rattle.command_answers.specs.Answers.{NoFault, ReadFaultRose, IsLate, IsUnprinted};
-ghost use Rattle.check_command.specs.ProofDue as spec;
-ghost use Rattle.check_command.specs.Answered.{AnswersBy};
+ghost use Rattle.log_check.specs.Answered.{AnswersBy};
+ghost use Rattle.log_check.specs.LogDue as spec;
 
 use crate::limits::limit_status;
-use crate::lines::refuted_line;
 use alike_refutations::refuted_alike;
 use command_answers::{Difference, Status};
 use log_text::{LogFault, read_log};
-use offer_book::{Book, Demand};
+use offer_terms::{Book, Demand};
 use pkg_world::{Bytes, Cause, NormPath, Store, Unread, file_at};
 use refutation_log::Log;
 use resolve_core::{VerifyFault, verify_log};
-use std::alloc::Global;
+use std::alloc::{AllocError, Global};
 
-/// The answer by the file at the path, where the instance of the book and the demand passes no limit.
-pub(crate) fn of_log<S: Store>(
+/// The answer of `check --proof FILE` by a book and a demand whose instance passes no limit: the line `refuted` where the file
+/// tells a log that refutes the instance. Then no selection is feasible over what the book offers, whoever made the log. (own rule)
+///
+/// Refusals, of which the first that is due comes: MissingFile where no file is there, a folder in its place being none; BadFile
+/// with the first line that is none of a log; Differs with the path where the log refutes nothing. ReadFault comes where the
+/// store fails, and want of memory is free.
+pub fn log_verdict<S: Store>(
     alloc: Global,
     store: &mut S,
     demand: &Demand,
@@ -107,6 +111,13 @@ fn of_nodes(
         Ok(false) => Err(Status::Differs(Difference::Log(path))),
         Err(fault) => Err(limit_status(fault)),
     }
+}
+
+/// `refuted`. The one error is want of memory.
+fn refuted_line(alloc: Global) -> Result<String, AllocError>
+    ensures { IfOk result (λ text. string_bytes text ≡ spec.refuted_line) }
+{
+    String::from_str(alloc, "refuted\n")
 }
 
 /// Whether the log refutes the instance of the book and the demand, so that no selection is feasible. Refused where the instance

@@ -1,0 +1,4 @@
+mod AlikeLemmas
+mod AnswerLemmas
+mod LimitLemmas
+mod LogLemmas
