@@ -85,7 +85,7 @@ within law book w fits Cells count past =
     let same = (law book w past.1.graph fits.sums.graph past.1.stands fits.sums.stands).1 in
     let over = past.1.says.1 in
     let under = fits.sums.says.1 in
-    omega (arith, same, over.0, under)
+    omega (arith, same, over, under)
 within law book w fits TreeDepth count past = past
 within law book w fits TreeFiles count past = past
 

@@ -1,4 +1,4 @@
 mod AlikeLemmas
-mod AnswerLemmas
+pub mod AnswerLemmas
 mod LimitLemmas
 mod LogLemmas

@@ -11,7 +11,7 @@ returns-in-Ok-clause-answer g c =
     edit_goes_on (g.S.Store.files c.args.store.now) (edited_as Resolve c.args.place.now (seen c.args.opened)) (λ all edit. with_demand all c.args.opened.catalog (seen_claim c.args.claim) edit.demand)
     (seen_edit c.in-Ok.edited) c.in-Ok.ensures.told _ c.of_demand.ensures.answer
 
-pub returns-clause-answer : goal.returns-clause-answer
-returns-clause-answer g c =
+pub returns-in-Err-clause-answer : goal.returns-in-Err-clause-answer
+returns-in-Err-clause-answer g c =
     edit_refuses (g.S.Store.files c.args.store.now) (edited_as Resolve c.args.place.now (seen c.args.opened)) (λ all edit. with_demand all c.args.opened.catalog (seen_claim c.args.claim) edit.demand)
     c.in-Err.status c.in-Err.ensures.told
