@@ -1,5 +1,5 @@
 -- Closures of instances that are alike.
-use Rattle.std.proofs.Common.{◌≡◌, ℕ, ◌-◌, ◌<◌, Bool, true, false, not, ◌&&◌, ◌==◌, List, [], refl, sym, ◌∙◌, subst, ap, arith, ltb}
+use Rattle.std.proofs.Common.{◌≡◌, ℕ, ◌-◌, ◌<◌, true, false, not, ◌&&◌, ◌==◌, List, sym, ◌∙◌, subst, ap, arith, ltb}
 use Rattle.std.proofs.lemmas.Bool.{and_parts, and_from, ltb-true, lt-ltb, not-true, eqb-false}
 use Rattle.version_graph.specs.Graph.{Graph, packages, states, last, is_barred, is_offered, is_root, does_need, is_forbidden}
 use Rattle.version_graph.specs.Family.{Family, IsWithin, IsStable, InClosure, HasEmpty, agrees, under}

@@ -1,11 +1,11 @@
 -- Prunings of instances that are alike.
-use Rattle.std.proofs.Common.{◌≡◌, ℕ, ◌<◌, Bool, true, false, ◌&&◌, ◌||◌, ◌==◌, [], refl, sym, ◌∙◌, subst, ap, inl, inr}
+use Rattle.std.proofs.Common.{◌≡◌, ℕ, Bool, true, ◌&&◌, ◌||◌, ◌==◌, [], sym, ◌∙◌, ap, inl, inr}
 use Rattle.std.proofs.lemmas.Bool.{and_parts, cases_Bool}
-use Rattle.version_graph.specs.Graph.{Graph, packages, states, last, is_offered}
-use Rattle.version_graph.specs.Family.{Family, InClosure, IsClosureOf, IsFilled, agrees, under}
-use Rattle.graph_pruning.specs.Pruned.{Pruning, left, Spreads, AreReached, AreKept, SameIn, StandsFor, AreStanding, IsPruningOf}
+use Rattle.version_graph.specs.Graph.{Graph, last, is_offered}
+use Rattle.version_graph.specs.Family.{Family, IsClosureOf, IsFilled, agrees, under}
+use Rattle.graph_pruning.specs.Pruned.{Pruning, left, Spreads, AreReached, AreKept, SameIn, AreStanding, IsPruningOf}
 use Rattle.alike_refutations.specs.Alike.{IsLike}
-use Rattle.alike_refutations.proofs.Closed.{offered_known, like_back, package_over, state_over, last_same, offered_over, root_over, need_over, closure_over}
+use Rattle.alike_refutations.proofs.Closed.{offered_known, like_back, package_over, last_same, offered_over, root_over, need_over, closure_over}
 
 -- a family of offered states
 pub record AreOffered (g : Graph) (f : Family) : Type 0 where

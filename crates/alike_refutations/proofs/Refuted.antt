@@ -1,5 +1,5 @@
 -- A tree that refutes an instance refutes each one that is like it.
-use Rattle.std.proofs.Common.{◌≡◌, ℕ, ◌<◌, List, [], ◌∷◌, ◌++◌}
+use Rattle.std.proofs.Common.{ℕ, ◌<◌, List, [], ◌∷◌, ◌++◌}
 use Rattle.version_graph.specs.Graph.{Graph, packages}
 use Rattle.graph_pruning.specs.Pruned.{Pruning}
 use Rattle.refutation_log.specs.declared.node.Node.{Node}

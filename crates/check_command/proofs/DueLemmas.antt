@@ -5,7 +5,7 @@ use Rattle.pkg_world.specs.Tree.{Files, holds, file_bytes}
 use Rattle.offer_terms.specs.Offered.{Id, Selected, cut_to}
 use Rattle.offer_terms.specs.Booked.{Packed, book_offers}
 use Rattle.offer_terms.specs.Demanded.{Wanted}
-use Rattle.offer_terms.specs.Feasible.{IsFeasible, IsValid}
+use Rattle.offer_terms.specs.Feasible.{IsValid}
 use Rattle.offer_catalog.specs.SaidCatalog.{SaidCatalog}
 use Rattle.offer_book.specs.Scope.{scope}
 use Rattle.offer_book.specs.AllOffers.{all_offers}

@@ -1,5 +1,5 @@
 -- What is due on a log where the phases before it are not refused.
-use Rattle.std.proofs.Common.{◌≡◌, ℕ, true, List, Option, Some, None, Result, Ok, Err, refl, sym, ap, subst, inl, inr, arith}
+use Rattle.std.proofs.Common.{◌≡◌, ℕ, true, List, Option, Some, None, Result, Ok, Err, refl, ap, subst, inl, inr, arith}
 use Rattle.pkg_world.specs.Each.{then_ok}
 use Rattle.pkg_world.specs.Path.{Path}
 use Rattle.pkg_world.specs.Tree.{Files, holds, file_bytes}
@@ -19,8 +19,8 @@ use Rattle.refutation_log.specs.declared.node.Node.{Node}
 use Rattle.log_text.specs.Laws.{TextOfOne}
 use Rattle.log_text.specs.Text.{IsTextOf}
 use Rattle.command_answers.specs.declared.status.Status.{Status}
-use Rattle.project_phases.specs.Phases.{Opened, opened_in, edited_as, booked_in}
-use Rattle.check_command.specs.CheckDue.{Claim, claims_none, Judged, judged_of, checked_in, with_opened, with_claim, with_demand, IsClaimJudged, IsAnswerOn, IsDue}
+use Rattle.project_phases.specs.Phases.{opened_in, edited_as, booked_in}
+use Rattle.check_command.specs.CheckDue.{Claim, claims_none, Judged, judged_of, checked_in, with_opened, with_demand, IsClaimJudged, IsAnswerOn, IsDue}
 use Rattle.check_command.specs.Laws.{HasNone}
 use Rattle.log_check.specs.LogDue.{refuted_line, Certifies, IsProved, IsLogJudged}
 

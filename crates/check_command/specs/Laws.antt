@@ -1,12 +1,12 @@
 -- What is true of the answers that are due, in the subject's words.
-use Rattle.std.specs.Prelude.{◌≡◌, ℕ, List, Option, Some, None, Result, Ok}
+use Rattle.std.specs.Prelude.{◌≡◌, ℕ, List, Some, Result, Ok}
 use Rattle.pkg_world.specs.Path.{Path}
 use Rattle.pkg_world.specs.Tree.{Files, holds, file_bytes}
 use Rattle.pkg_world.specs.declared.place.Place.{Place}
 use Rattle.offer_terms.specs.Offered.{Selected}
 use Rattle.offer_terms.specs.Booked.{Packed}
 use Rattle.offer_terms.specs.Demanded.{Wanted}
-use Rattle.offer_terms.specs.Feasible.{IsFeasible, IsValid}
+use Rattle.offer_terms.specs.Feasible.{IsFeasible}
 use Rattle.offer_catalog.specs.SaidCatalog.{SaidCatalog}
 use Rattle.offer_book.specs.Scope.{scope}
 use Rattle.offer_book.specs.AllOffers.{all_offers}

@@ -30,10 +30,9 @@ pub(crate) fn claim_of(
     match proof {
         Some(path) => Ok(Claim::Refuted(path.copy(alloc)?)),
         None => {
-            let selection =
-                opened
-                    .catalog
-                    .selection(alloc, &opened.manifest, opened.project.uuid)?;
+            let selection = opened
+                .catalog
+                .selection(alloc, &opened.manifest, opened.project.uuid)?;
             Ok(Claim::Valid(selection))
         }
     }

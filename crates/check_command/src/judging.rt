@@ -14,8 +14,8 @@ ghost use Rattle.check_command.specs.Lines.{good_text};
 
 use crate::claim::Claim;
 use crate::lines::{good_line, raise_lines};
-use log_check::{limit_status, log_verdict, within_limits};
 use command_answers::{Difference, Status};
+use log_check::{limit_status, log_verdict, within_limits};
 use offer_book::{Book, Demand, Selection};
 use pkg_world::Store;
 use selection_check::{Scratch, Verdict, check, raisable, valid_breaks_none};

@@ -1,6 +1,6 @@
 -- The verdict on a log is that of all instances that stand for the book and the demand, since these are alike.
-use Rattle.std.proofs.Common.{◌≡◌, ℕ, ◌+◌, ◌<◌, Bool, true, false, List, length, Result, Ok, Err, IfOk, refl, sym, ◌∙◌, subst, arith}
-use Rattle.std.specs.Prelude.{MatchBool, ◌↔◌, ◌⊎◌}
+use Rattle.std.proofs.Common.{◌≡◌, ℕ, ◌<◌, Bool, true, false, List, length, Result, Ok, Err, IfOk, refl, sym, ◌∙◌, subst, arith}
+use Rattle.std.specs.Prelude.{MatchBool, ◌↔◌}
 use Rattle.offer_terms.specs.Booked.{Packed, package_at}
 use Rattle.offer_terms.specs.Demanded.{Wanted}
 use Rattle.version_graph.specs.Graph.{Graph, packages, states}

@@ -1,12 +1,11 @@
 -- The answer on the log of a file.
-use Rattle.std.proofs.Common.{◌≡◌, ℕ, true, false, List, Option, Some, None, IfSome, Result, Ok, Err, String, string_bytes, inl, inr, refl, sym, subst}
+use Rattle.std.proofs.Common.{◌≡◌, ℕ, List, Option, Some, None, IfSome, Result, Ok, Err, String, inl, inr, subst}
 use Rattle.std.specs.declared.alloc.Global.{Global}
 use Rattle.pkg_world.specs.Path.{Path}
 use Rattle.pkg_world.specs.Tree.{Files}
-use Rattle.offer_terms.specs.Offered.{Offers, Selected}
+use Rattle.offer_terms.specs.Offered.{Offers}
 use Rattle.offer_terms.specs.Booked.{Packed}
 use Rattle.offer_terms.specs.Demanded.{Wanted}
-use Rattle.book_graph.specs.Limits.{Fits}
 use Rattle.refutation_log.specs.declared.node.Node.{Node}
 use Rattle.log_text.specs.Text.{IsTextOf}
 use Rattle.command_answers.specs.declared.status.Status.{Status}

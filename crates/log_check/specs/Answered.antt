@@ -1,5 +1,5 @@
 -- What an answer says where it is due by a relation.
-use Rattle.std.specs.Prelude.{ℕ, List, Result, Ok, Err, MatchResult, String, string_bytes}
+use Rattle.std.specs.Prelude.{ℕ, List, Result, Ok, MatchResult, String, string_bytes}
 use Rattle.std.specs.declared.alloc.Global.{Global}
 use Rattle.command_answers.specs.declared.status.Status.{Status}
 use Rattle.command_answers.specs.Endings.{RefusesBy}

@@ -93,7 +93,11 @@ fn texts_of_logs_read_and_print(rt: HostRuntime) -> Result<(), Fail> {
 #[test]
 fn other_texts_have_a_first_bad_line(rt: HostRuntime) {
     for (text, line) in REFUSED {
-        assert_eq!(rt; line_of(read_log(rt.alloc(), text.as_bytes())), Some(line), "{text}");
+        assert_eq!(rt;
+            line_of(read_log(rt.alloc(), text.as_bytes())),
+            Some(line),
+            "{text}"
+        );
     }
 }
 
@@ -114,12 +118,7 @@ fn branch(state: Option<u32>, package: u32, children: u32) -> Node {
 #[test]
 fn a_log_is_printed(rt: HostRuntime) -> Result<(), Fail> {
     let mut log = Log::make(rt.alloc());
-    for node in [
-        branch(None, 10, 2),
-        leaf(7),
-        branch(Some(0), 3, 1),
-        leaf(1),
-    ] {
+    for node in [branch(None, 10, 2), leaf(7), branch(Some(0), 3, 1), leaf(1)] {
         log.push(node)?;
     }
     let bytes = print_log(rt.alloc(), &log)?;
