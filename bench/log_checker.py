@@ -177,17 +177,21 @@ def changed(text, dice):
     return b"\n".join(lines)
 
 
-def mirrored(text, dice):
-    """The text with the children of each branch in another order, which doesn't matter."""
-    nodes = text.split(b"\n")[:0:-1][1:]
+def remade(text, dice, dropped):
+    """The text with the children of each branch in another order, which doesn't matter, and this share of them left out."""
+    lines = text.split(b"\n")[:0:-1][1:]
 
     def tree():
-        line = nodes.pop()
-        children = [tree() for _ in range(int(line.split()[-1]) if b"branch" in line else 0)]
+        *words, last = lines.pop().split(b" ")
+        if last == b"leaf":
+            return [b" ".join(words + [last])]
+        children = [tree() for _ in range(int(last))]
         dice.shuffle(children)
-        return line + b"\n" + b"".join(children)
+        kept = [it for it in children if dice.random() >= dropped] or children[:1]
+        return [b" ".join(words + [b"%d" % len(kept)])] + sum(kept, [])
 
-    return text[: text.index(b"\n") + 1] + tree()
+    nodes = tree()
+    return b"jlpkg-log 1 %d\n" % len(nodes) + b"".join(it + b"\n" for it in nodes)
 
 
 # ---- the comparison
@@ -209,7 +213,7 @@ def verdict(instance, text, log):
 def main():
     count = int(sys.argv[1]) if len(sys.argv) > 1 else 1000
     program = os.path.realpath(sys.argv[2]) if len(sys.argv) > 2 else os.path.join(ROOT, "crates", "jlpkg", "out", "jlpkg")
-    dice, told, worlds = random.Random(28), {}, 0
+    dice, told, worlds = random.Random(28), {"refuted": 0, "Differs": 0, "BadLog": 0}, 0
     fixed = [(MUTUAL, ["A", "B"]), (CYCLE, ["X", "Y", "Z"]), (holes(4), ["P0", "P1", "P2", "P3"]), (holes(5), [f"P{n}" for n in range(5)])]
     while sum(told.values()) < count:
         world, roots = fixed.pop(0) if fixed else (drawn(dice), ["P0", "P1"])
@@ -222,14 +226,15 @@ def main():
             with open(log, "rb") as file:
                 written = file.read()
             instance = Instance(world, roots)
-            texts = [written] + [mirrored(written, dice) for _ in range(5)] + [changed(written, dice) for _ in range(94)]
+            texts = [written] + [remade(written, dice, share) for share in [0] * 10 + [0.1] * 30] + [changed(written, dice) for _ in range(59)]
             for text in texts[: count - sum(told.values())]:
                 write(log, text)
                 ours, theirs = verdict(instance, text, log), run(program, folder, "check", "--proof", "log")
                 if ours != theirs or (text == written and ours != "refuted\n"):
                     sys.exit(f"{text!r} of {world} with the roots {roots}: the program says {theirs!r}, the checker {ours!r}")
-                told[ours.split()[-2] if ours != "refuted\n" else "refuted"] = told.get(ours.split()[-2] if ours != "refuted\n" else "refuted", 0) + 1
-    print(f"{count} logs of {worlds} worlds: {told}")
+                name = next(it for it in told if it in ours)
+                told[name] += 1
+    print(f"{count} logs of {worlds} worlds: " + ", ".join(f"{number} {name}" for name, number in told.items()))
 
 
 if __name__ == "__main__":
