@@ -13,7 +13,7 @@ use Rattle.selection_check.specs.Laws.{ValidBreaksNone}
 use Rattle.selection_check.specs.Raises.{IsLeastRaise, RaisesNone}
 use Rattle.selection_check.specs.Verdicts.{IsFirstBreach}
 use Rattle.selection_check.specs.declared.verdict.Verdict.{Verdict}
-use Rattle.check_command.specs.CheckDue.{judged_by, raised_to, IsBreach, IsGood}
+use Rattle.check_command.specs.CheckDue.{judged_by, claims_valid, raised_to, IsBreach, IsGood}
 use Rattle.check_command.specs.Lines.{good_line, good_text}
 
 -- a selection that breaks a clause isn't valid
@@ -30,7 +30,7 @@ raised_at book p j offers x uuid all there same =
 module _ (book : List Packed) (w : Wanted) (s : Selected) (valid : IsValid (book_offers book) w s) where
   -- what can be raised first is told
   pub good_raise : {E : Type 0} (p j : ℕ) → IsLeastRaise book w s p j → (result : Result (String Global) E) → IfOk result (λ text. string_bytes text ≡ good_text (raised_to book p j))
-      → IfOk result (λ text. IsGood (judged_by book w s) (string_bytes text))
+      → IfOk result (λ text. IsGood (judged_by book w (claims_valid s)) s (string_bytes text))
   good_raise p j least (Ok text) told =
       let raise : Id × Version = ((package_at book p).uuid, least.here.offer.version) in
       let named : raised_to book p j ≡ Some raise = ap (option_map (λ o. ((package_at book p).uuid, o.version))) least.here.there in
@@ -43,6 +43,6 @@ module _ (book : List Packed) (w : Wanted) (s : Selected) (valid : IsValid (book
   good_raise p j least (Err fault) told = tt
 
   pub good_none : {E : Type 0} → RaisesNone book w s → (result : Result (String Global) E) → IfOk result (λ text. string_bytes text ≡ good_line)
-      → IfOk result (λ text. IsGood (judged_by book w s) (string_bytes text))
+      → IfOk result (λ text. IsGood (judged_by book w (claims_valid s)) s (string_bytes text))
   good_none none (Ok text) told = record { valid = valid; raise = None; raises = none; told = told }
   good_none none (Err fault) told = tt

@@ -1,4 +1,5 @@
 mod LimitLemmas
 mod JudgeLemmas
-mod LiftLemmas
-mod RefusalLemmas
+mod DueLemmas
+mod PhaseLemmas
+mod LawLemmas

@@ -1,21 +1,14 @@
--- The limits of the instance that stands for a book and a demand.
-use Rattle.std.proofs.Common.{◌≡◌, ℕ, ◌+◌, ◌<◌, ◌≤◌, List, [], length, get_or, sum, Ok, ap, refl, inl, inr, subst, sym, arith}
+-- Where no limit of the instance is passed, no package has too many offers for the search for raises.
+use Rattle.std.proofs.Common.{◌≡◌, ℕ, ◌+◌, ◌≤◌, List, [], length, get_or, sum, ap, inl, inr, arith}
 use Rattle.std.proofs.Math.ListN.{get_or-eq_default}
 use Rattle.std.proofs.lemmas.Bool.{cases_lt}
 use Rattle.std.proofs.lemmas.List.{get_or-map, length-map}
 use Rattle.std.proofs.lemmas.List.Sums.{get_or-le-sum_by}
 use Rattle.offer_terms.specs.Booked.{Packed, package_at, unread}
 use Rattle.offer_terms.specs.Demanded.{Wanted}
-use Rattle.version_graph.specs.declared.fault.GraphFault.{GraphFault}
-use Rattle.version_graph.specs.declared.fault.GraphFault.TheVariants as instance
 use Rattle.book_graph.specs.StandsFor.{sizes_of, state_count}
-use Rattle.book_graph.specs.Limits.{IsPast, Fits}
+use Rattle.book_graph.specs.Limits.{Fits}
 use Rattle.selection_check.specs.Raises.{HasFewOffers}
-use Rattle.command_answers.specs.declared.status.Status.{Status}
-use Rattle.check_command.specs.CheckDue.{Judged, IsAnswerOn}
-use Rattle.check_command.specs.CheckDue as spec
-use Rattle.command_answers.specs.Endings.{RefusesBy}
-use Rattle.check_command.specs.Refusals.{limit_status}
 
 -- no package has more offers than all have states
 few_offers : (book : List Packed) (p : ℕ) → sum (sizes_of book) ≤ 65536 → length (package_at book p).offers ≤ 65536
@@ -31,11 +24,3 @@ few_offers book p small = elim (cases_lt p (length book)) [
 
 pub has_few : (book : List Packed) (w : Wanted) → Fits book w → HasFewOffers book
 has_few book w fits p = let small = few_offers book p fits.small in omega (arith, small)
-
-too_much : (it : Judged) (fault : GraphFault) → IsPast it.book it.wanted fault → RefusesBy (IsAnswerOn (Ok it)) (limit_status fault)
-too_much it (instance.Limit kind count) past = inl (record { kind = kind; count = count; past = past; told = refl })
-too_much it instance.Memory past = tt
-
--- a limit that is passed is told
-pub limit_told : (it : Judged) (fault : GraphFault) (ended : Status) → IsPast it.book it.wanted fault → ended ≡ limit_status fault → RefusesBy (IsAnswerOn (Ok it)) ended
-limit_told it fault ended past same = subst (RefusesBy (IsAnswerOn (Ok it))) (sym same) (too_much it fault past)

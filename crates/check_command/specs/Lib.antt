@@ -1,4 +1,3 @@
 pub mod Lines
 pub mod CheckDue
-pub mod Answered
-pub mod Refusals
+pub mod Laws

@@ -1,40 +1,39 @@
-//! `check`: the phases before the verdict.
-ghost use Rattle.std.specs.Prelude.{◌≡◌, ◌≤◌, ◌<◌, Ok, IfSome, IfOk, IfErr, OnOk, map};
-ghost use Rattle.std.specs.Map.{keys_of};
-ghost use Rattle.offer_terms.specs.Booked.{book_offers};
+//! `check`: the phases before what is judged.
+ghost use Rattle.std.specs.Prelude.{◌≡◌, ◌≤◌, IfSome, IfErr};
 ghost use Rattle.offer_terms.specs.Demanded.{wanted};
-ghost use Rattle.project_file.specs.Said.{said as said_project};
-ghost use Rattle.manifest_file.specs.Said.{said as said_manifest};
-ghost use Rattle.home_files.specs.HomeFiles.{seen as seen_files};
-ghost use Rattle.pkg_commands.specs.Edit.{edited as edit_meant};
-ghost use Rattle.pkg_commands.specs.declared.command.Command.TheVariants.{Resolve};
-ghost use Rattle.command_answers.specs.Answers.{ReadFaultRose, NoFault, IsLate, IsUnprinted};
+ghost use Rattle.project_phases.specs.Phases.{seen as seen_opened};
+ghost use Rattle.command_answers.specs.Answers.{ReadFaultRose, IsLate, IsUnprinted};
 ghost use Rattle.check_command.specs.CheckDue as spec;
-ghost use Rattle.check_command.specs.Answered.{AnswersBy, AnswersOn};
+ghost use Rattle.log_check.specs.Answered.{AnswersBy};
 
+use crate::claim::{Claim, claim_of, extra_of};
 use crate::judging::of_book;
-use crate::refusals::book_status;
+use crate::laws::judged_is_due;
 use command_answers::Status;
-use home_files::{HomeFiles, home_files};
-use manifest_file::Manifest;
-use offer_book::laws::{raised_alike, valid_alike};
-use offer_book::{Book, Catalog, Demand, Selection, gather};
-use pkg_commands::{Command, EditFault, apply};
-use pkg_world::{Ids, Listed, Place, Store};
-use project_file::Project;
-use registry_tables::RegFault;
-use std::alloc::{AllocError, Global};
+use offer_book::{Book, Catalog, Demand};
+use pkg_commands::Command;
+use pkg_world::{Ids, NormPath, Place, Store};
+use project_phases::{Opened, edit_project, gather_book, open_project};
+use std::alloc::Global;
 
 /// The lines of `check`, or its refusal: `good` where what the manifest says is valid for the offers of the files and the
 /// demand of the project, then `raisable UUID VERSION` where a package can be raised alone, the least by number with its least
-/// such offer. (Pkg, Compatibility; the order and the lines are own rules.)
+/// such offer. Where a file is named, the one line is `refuted` instead: the log that the file tells shows that no selection is
+/// feasible for these offers and this demand, whoever made it. (Pkg, Compatibility; the order and the lines are own rules.)
 ///
 /// Refusals, of which the first that is due comes: MissingFile and BadFile of the project file, the manifest, and the files
-/// of the catalog; WrongJulia; NeedsFetch; MissingFile and BadFile of the tables of the packages that are reached; UnknownPackage;
-/// Limit of packages, and then of the states, bits and cells of the instance that stands for the book and the demand; Differs
-/// with the first clause that is broken. ReadFault comes where the store fails, and want of memory is free.
-pub fn check<S: Store>(alloc: Global, place: &Place, store: &mut S) -> Result<String, Status>
-    ensures answer { IfSome (S.files store.old) (λ all. AnswersBy (spec.IsDue all place.now) result) }
+/// of the catalog; WrongJulia; NeedsFetch; MissingFile and BadFile of the tables of the packages that are reached, among which
+/// are those that the manifest selects where no file is named; UnknownPackage; Limit of packages, and then of the states, bits
+/// and cells of the instance that stands for the book and the demand. Then Differs with the first clause that is broken; or, of
+/// the named file, MissingFile where it isn't there, BadFile with the first line that is none of a log, and Differs with its
+/// path where the log doesn't refute the instance. ReadFault comes where the store fails, and want of memory is free.
+pub fn check<S: Store>(
+    alloc: Global,
+    place: &Place,
+    proof: &Option<NormPath>,
+    store: &mut S,
+) -> Result<String, Status>
+    ensures answer { IfSome (S.files store.old) (λ all. AnswersBy (spec.IsDue all place.now proof.now) result) }
     ensures late { IfErr result IsLate }
     ensures unprinted { IfErr result IsUnprinted }
     ensures fault { IfErr result (ReadFaultRose (S.read_faults store.old) (S.read_faults store.new)) }
@@ -42,23 +41,21 @@ pub fn check<S: Store>(alloc: Global, place: &Place, store: &mut S) -> Result<St
     ensures later { S.read_faults store.old ≤ S.read_faults store.new }
     ensures other { S.write_faults store.new ≡ S.write_faults store.old }
 {
-    match home_files(alloc, store, place) {
-        Ok(files) => of_files(alloc, place, store, files),
-        Err(RegFault::ReadFault(path)) => Err(Status::ReadFault(path)),
-        Err(RegFault::MissingFile(path)) => Err(Status::MissingFile(path)),
-        Err(RegFault::BadFile(path, cause)) => Err(Status::BadFile(path, cause)),
-        Err(RegFault::Memory) => Err(Status::Memory),
+    match open_project(alloc, place, true, store) {
+        Ok(opened) => of_opened(alloc, place, proof, store, opened),
+        Err(status) => Err(status),
     }
 }
 
-/// The same of the project's two files, by the catalog of their place.
-fn of_files<S: Store>(
+/// The same by what the project's two files and those of the catalog say.
+fn of_opened<S: Store>(
     alloc: Global,
     place: &Place,
+    proof: &Option<NormPath>,
     store: &mut S,
-    files: HomeFiles,
+    opened: Opened,
 ) -> Result<String, Status>
-    ensures answer { IfSome (S.files store.old) (λ all. AnswersOn (spec.with_files all place.now (seen_files files)) result) }
+    ensures answer { IfSome (S.files store.old) (λ all. AnswersBy (spec.IsAnswerOn all (spec.with_opened all place.now proof.now (seen_opened opened))) result) }
     ensures late { IfErr result IsLate }
     ensures unprinted { IfErr result IsUnprinted }
     ensures fault { IfErr result (ReadFaultRose (S.read_faults store.old) (S.read_faults store.new)) }
@@ -66,52 +63,21 @@ fn of_files<S: Store>(
     ensures later { S.read_faults store.old ≤ S.read_faults store.new }
     ensures other { S.write_faults store.new ≡ S.write_faults store.old }
 {
-    let HomeFiles {
-        home,
-        project,
-        manifest,
-    } = files;
-    match Catalog::load(alloc, store, place, &home, &project, &manifest) {
-        Ok(catalog) => of_catalog(alloc, place, store, &catalog, project, manifest),
-        Err(fault) => Err(book_status(fault)),
-    }
-}
-
-/// The same by what the manifest selects.
-#[tactic(auto, unfolding(project_file::specs::Said::said))]
-fn of_catalog<S: Store>(
-    alloc: Global,
-    place: &Place,
-    store: &mut S,
-    catalog: &Catalog,
-    project: Project,
-    manifest: Manifest,
-) -> Result<String, Status>
-    ensures answer { IfSome (S.files store.old) (λ all. AnswersOn (spec.with_project all place.now catalog.now (said_project project) (said_manifest manifest)) result) }
-    ensures late { IfErr result IsLate }
-    ensures unprinted { IfErr result IsUnprinted }
-    ensures fault { IfErr result (ReadFaultRose (S.read_faults store.old) (S.read_faults store.new)) }
-    ensures files { S.files store.new ≡ S.files store.old }
-    ensures later { S.read_faults store.old ≤ S.read_faults store.new }
-    ensures other { S.write_faults store.new ≡ S.write_faults store.old }
-{
-    match catalog.selection(alloc, &manifest, project.uuid) {
-        Ok(selection) => of_selection(alloc, place, store, catalog, project, manifest, &selection),
+    match claim_of(alloc, proof, &opened) {
+        Ok(claim) => of_claim(alloc, place, store, opened, claim),
         Err(_) => Err(Status::Memory),
     }
 }
 
-/// The same by the project's demand.
-fn of_selection<S: Store>(
+/// The same by what is claimed.
+fn of_claim<S: Store>(
     alloc: Global,
     place: &Place,
     store: &mut S,
-    catalog: &Catalog,
-    project: Project,
-    manifest: Manifest,
-    selection: &Selection,
+    opened: Opened,
+    claim: Claim,
 ) -> Result<String, Status>
-    ensures answer { IfSome (S.files store.old) (λ all. AnswersOn (spec.with_selection all catalog.now selection.now.items (edit_meant Resolve catalog.now place.now (said_project project) (said_manifest manifest))) result) }
+    ensures answer { IfSome (S.files store.old) (λ all. AnswersBy (spec.IsAnswerOn all (spec.with_claim all place.now (spec.seen_claim claim) (seen_opened opened))) result) }
     ensures late { IfErr result IsLate }
     ensures unprinted { IfErr result IsUnprinted }
     ensures fault { IfErr result (ReadFaultRose (S.read_faults store.old) (S.read_faults store.new)) }
@@ -119,22 +85,26 @@ fn of_selection<S: Store>(
     ensures later { S.read_faults store.old ≤ S.read_faults store.new }
     ensures other { S.write_faults store.new ≡ S.write_faults store.old }
 {
-    match apply(alloc, Command::Resolve, project, manifest, catalog, place) {
-        Ok(edited) => of_demand(alloc, store, catalog, &edited.demand, selection),
-        Err(EditFault::WrongJulia(text)) => Err(Status::WrongJulia(text)),
-        Err(EditFault::NeedsFetch(name)) => Err(Status::NeedsFetch(name)),
-        Err(EditFault::Memory) => Err(Status::Memory),
+    let Opened {
+        catalog,
+        project,
+        manifest,
+    } = opened;
+    match edit_project(alloc, Command::Resolve, place, &catalog, project, manifest) {
+        Ok(edited) => of_demand(alloc, store, &catalog, &edited.demand, claim),
+        Err(status) => Err(status),
     }
 }
 
+/// The same by the project's demand.
 fn of_demand<S: Store>(
     alloc: Global,
     store: &mut S,
     catalog: &Catalog,
     demand: &Demand,
-    selection: &Selection,
+    claim: Claim,
 ) -> Result<String, Status>
-    ensures answer { IfSome (S.files store.old) (λ all. AnswersOn (spec.with_demand all catalog.now selection.now.items (wanted demand.now)) result) }
+    ensures answer { IfSome (S.files store.old) (λ all. AnswersBy (spec.IsAnswerOn all (spec.with_demand all catalog.now (spec.seen_claim claim) (wanted demand.now))) result) }
     ensures late { IfErr result IsLate }
     ensures unprinted { IfErr result IsUnprinted }
     ensures fault { IfErr result (ReadFaultRose (S.read_faults store.old) (S.read_faults store.new)) }
@@ -142,22 +112,10 @@ fn of_demand<S: Store>(
     ensures later { S.read_faults store.old ≤ S.read_faults store.new }
     ensures other { S.write_faults store.new ≡ S.write_faults store.old }
 {
-    match ids_of(alloc, selection) {
-        Ok(extra) => of_extra(alloc, store, catalog, demand, selection, &extra),
+    match extra_of(alloc, &claim) {
+        Ok(extra) => of_extra(alloc, store, catalog, demand, claim, &extra),
         Err(_) => Err(Status::Memory),
     }
-}
-
-/// The packages that are selected.
-fn ids_of(alloc: Global, selection: &Selection) -> Result<Ids, AllocError>
-    ensures { IfOk result (λ ids. ids.items ≡ keys_of selection.now.items) }
-{
-    let mut ids = Listed::make(alloc);
-    let pairs = selection.items();
-    for pair in pairs {
-        ids.push(pair.0)?;
-    }
-    Ok(ids)
 }
 
 /// The same by the book that is gathered with these packages beside the roots.
@@ -166,11 +124,11 @@ fn of_extra<S: Store>(
     store: &mut S,
     catalog: &Catalog,
     demand: &Demand,
-    selection: &Selection,
+    claim: Claim,
     extra: &Ids,
 ) -> Result<String, Status>
-    requires { extra.now.items ≡ keys_of selection.now.items }
-    ensures answer { IfSome (S.files store.old) (λ all. AnswersOn (spec.with_demand all catalog.now selection.now.items (wanted demand.now)) result) }
+    requires { extra.now.items ≡ spec.extra_of (spec.seen_claim claim) }
+    ensures answer { IfSome (S.files store.old) (λ all. AnswersBy (spec.IsAnswerOn all (spec.with_demand all catalog.now (spec.seen_claim claim) (wanted demand.now))) result) }
     ensures late { IfErr result IsLate }
     ensures unprinted { IfErr result IsUnprinted }
     ensures fault { IfErr result (ReadFaultRose (S.read_faults store.old) (S.read_faults store.new)) }
@@ -178,25 +136,28 @@ fn of_extra<S: Store>(
     ensures later { S.read_faults store.old ≤ S.read_faults store.new }
     ensures other { S.write_faults store.new ≡ S.write_faults store.old }
 {
-    valid_alike();
-    raised_alike();
-    match gather(alloc, store, catalog, demand, extra) {
-        Ok(book) => of_gathered(alloc, demand, selection, book),
-        Err(fault) => Err(book_status(fault)),
+    judged_is_due();
+    match gather_book(alloc, store, catalog, demand, extra) {
+        Ok(book) => of_gathered(alloc, store, demand, claim, book),
+        Err(status) => Err(status),
     }
 }
 
 /// The same by a book, which is let go.
-fn of_gathered(
+fn of_gathered<S: Store>(
     alloc: Global,
+    store: &mut S,
     demand: &Demand,
-    selection: &Selection,
+    claim: Claim,
     book: Book,
 ) -> Result<String, Status>
-    ensures answer { AnswersOn (spec.with_book (book_offers book) (wanted demand.now) selection.now.items book) result }
+    ensures answer { IfSome (S.files store.old) (λ all. AnswersBy (spec.IsJudgement all (spec.judged_by book (wanted demand.now) (spec.seen_claim claim))) result) }
     ensures late { IfErr result IsLate }
     ensures unprinted { IfErr result IsUnprinted }
-    ensures fault { IfErr result NoFault }
+    ensures fault { IfErr result (ReadFaultRose (S.read_faults store.old) (S.read_faults store.new)) }
+    ensures files { S.files store.new ≡ S.files store.old }
+    ensures later { S.read_faults store.old ≤ S.read_faults store.new }
+    ensures other { S.write_faults store.new ≡ S.write_faults store.old }
 {
-    of_book(alloc, demand, selection, &book)
+    of_book(alloc, store, demand, claim, &book)
 }

@@ -1,52 +1,68 @@
-//! The verdict on what the manifest says, over the book.
-ghost use Rattle.std.specs.Prelude.{◌≡◌, ◌≢◌, ◌≤◌, ◌<◌, ℕ, length, Some, IfOk, IfErr, OnOk, MatchOption, string_bytes};
+//! The verdict on what is claimed, over the book.
+ghost use Rattle.std.specs.Prelude.{◌≡◌, ◌≢◌, ◌≤◌, ◌<◌, ℕ, length, Some, IfSome, IfOk, IfErr, OnOk, MatchOption, string_bytes};
 ghost use Rattle.offer_terms.specs.Booked.{book_offers, package_at};
 ghost use Rattle.offer_terms.specs.Demanded.{wanted};
 ghost use Rattle.offer_terms.specs.Feasible.{IsValid};
-ghost use Rattle.book_graph.specs.Limits.{IsPast, Fits};
-ghost use Rattle.command_answers.specs.Answers.{NoFault, IsLate, IsUnprinted};
+ghost use Rattle.book_graph.specs.Limits.{Fits};
+ghost use Rattle.command_answers.specs.Answers.{NoFault, ReadFaultRose, IsLate, IsUnprinted};
 ghost use Rattle.selection_check.specs.Raises.{HasFewOffers};
 ghost use Rattle.selection_check.specs.Scratch.{IsScratchFor};
 ghost use Rattle.selection_check.specs.Verdicts.{IsFirstBreach};
 ghost use Rattle.check_command.specs.CheckDue as spec;
-ghost use Rattle.check_command.specs.Answered.{AnswersOn};
+ghost use Rattle.log_check.specs.Answered.{AnswersBy};
 ghost use Rattle.check_command.specs.Lines.{good_text};
 
+use crate::claim::Claim;
 use crate::lines::{good_line, raise_lines};
-use crate::refusals::limit_status;
-use book_graph::make_instance;
 use command_answers::{Difference, Status};
+use log_check::{limit_status, log_verdict, within_limits};
 use offer_book::{Book, Demand, Selection};
+use pkg_world::Store;
 use selection_check::{Scratch, Verdict, check, raisable, valid_breaks_none};
 use std::alloc::{AllocError, Global};
-use version_graph::GraphFault;
 
-/// The answer on a selection by what a book offers, where the instance of the book and the demand passes no limit.
-pub(crate) fn of_book(
+/// The answer on a claim by what a book offers, where the instance of the book and the demand passes no limit.
+pub(crate) fn of_book<S: Store>(
     alloc: Global,
+    store: &mut S,
     demand: &Demand,
-    selection: &Selection,
+    claim: Claim,
     book: &Book,
 ) -> Result<String, Status>
-    ensures answer { AnswersOn (spec.with_book (book_offers book.now) (wanted demand.now) selection.now.items book.now) result }
+    ensures answer { IfSome (S.files store.old) (λ all. AnswersBy (spec.IsJudgement all (spec.judged_by book.now (wanted demand.now) (spec.seen_claim claim))) result) }
     ensures late { IfErr result IsLate }
     ensures unprinted { IfErr result IsUnprinted }
-    ensures fault { IfErr result NoFault }
+    ensures fault { IfErr result (ReadFaultRose (S.read_faults store.old) (S.read_faults store.new)) }
+    ensures files { S.files store.new ≡ S.files store.old }
+    ensures later { S.read_faults store.old ≤ S.read_faults store.new }
+    ensures other { S.write_faults store.new ≡ S.write_faults store.old }
 {
     match within_limits(alloc, book, demand) {
-        Ok(()) => judged(alloc, demand, selection, book),
+        Ok(()) => of_claim(alloc, store, demand, claim, book),
         Err(fault) => Err(limit_status(fault)),
     }
 }
 
-/// Refused where the instance of the book and the demand passes a limit, and for want of memory. The instance is made for this
-/// alone.
-fn within_limits(alloc: Global, book: &Book, demand: &Demand) -> Result<(), GraphFault>
-    ensures fits { OnOk result (Fits book.now (wanted demand.now)) }
-    ensures past { IfErr result (IsPast book.now (wanted demand.now)) }
+fn of_claim<S: Store>(
+    alloc: Global,
+    store: &mut S,
+    demand: &Demand,
+    claim: Claim,
+    book: &Book,
+) -> Result<String, Status>
+    requires fits { Fits book.now (wanted demand.now) }
+    ensures answer { IfSome (S.files store.old) (λ all. AnswersBy (spec.IsJudgement all (spec.judged_by book.now (wanted demand.now) (spec.seen_claim claim))) result) }
+    ensures late { IfErr result IsLate }
+    ensures unprinted { IfErr result IsUnprinted }
+    ensures fault { IfErr result (ReadFaultRose (S.read_faults store.old) (S.read_faults store.new)) }
+    ensures files { S.files store.new ≡ S.files store.old }
+    ensures later { S.read_faults store.old ≤ S.read_faults store.new }
+    ensures other { S.write_faults store.new ≡ S.write_faults store.old }
 {
-    let _instance = make_instance(alloc, book, demand)?;
-    Ok(())
+    match claim {
+        Claim::Valid(selection) => judged(alloc, demand, &selection, book),
+        Claim::Refuted(path) => log_verdict(alloc, store, demand, path, book),
+    }
 }
 
 /// The answer on a selection by what a book offers.
@@ -57,7 +73,7 @@ fn judged(
     book: &Book,
 ) -> Result<String, Status>
     requires fits { Fits book.now (wanted demand.now) }
-    ensures answer { AnswersOn (Ok (spec.judged_by book.now (wanted demand.now) selection.now.items)) result }
+    ensures answer { AnswersBy (spec.IsSelectionJudged (spec.judged_by book.now (wanted demand.now) (spec.claims_valid selection.now.items)) selection.now.items) result }
     ensures late { IfErr result IsLate }
     ensures unprinted { IfErr result IsUnprinted }
     ensures fault { IfErr result NoFault }
@@ -77,7 +93,7 @@ fn with_scratch(
 ) -> Result<String, Status>
     requires fits { Fits book.now (wanted demand.now) }
     requires made { IsScratchFor book.now scratch.old }
-    ensures answer { AnswersOn (Ok (spec.judged_by book.now (wanted demand.now) selection.now.items)) result }
+    ensures answer { AnswersBy (spec.IsSelectionJudged (spec.judged_by book.now (wanted demand.now) (spec.claims_valid selection.now.items)) selection.now.items) result }
     ensures late { IfErr result IsLate }
     ensures unprinted { IfErr result IsUnprinted }
     ensures fault { IfErr result NoFault }
@@ -127,7 +143,7 @@ fn good_lines(
     requires valid { IsValid (book_offers book.now) (wanted demand.now) selection.now.items }
     requires few { HasFewOffers book.now }
     requires made { IsScratchFor book.now scratch.old }
-    ensures { IfOk result (λ text. spec.IsGood (spec.judged_by book.now (wanted demand.now) selection.now.items) (string_bytes text)) }
+    ensures { IfOk result (λ text. spec.IsGood (spec.judged_by book.now (wanted demand.now) (spec.claims_valid selection.now.items)) selection.now.items (string_bytes text)) }
 {
     match raisable(book, demand, selection, scratch) {
         Some((package, place)) => with_raise(alloc, book, package, place),

@@ -1,0 +1,4 @@
+mod AlikeLemmas
+pub mod AnswerLemmas
+mod LimitLemmas
+mod LogLemmas
