@@ -11,7 +11,7 @@ use Rattle.offer_terms.specs.Booked.{Packed}
 use Rattle.offer_catalog.specs.SaidCatalog.{SaidCatalog}
 use Rattle.offer_book.specs.Scope.{scope}
 use Rattle.offer_book.specs.AllOffers.{all_offers}
-use Rattle.pkg_commands.specs.declared.command.Command.TheVariants.{Resolve}
+use Rattle.pkg_commands.specs.Commands.{resolve}
 use Rattle.version_graph.specs.declared.fault.GraphFault.TheVariants as instance
 use Rattle.book_graph.specs.Laws.{SumsAreOne}
 use Rattle.book_graph.specs.Limits.{IsPast, Fits}
@@ -40,7 +40,7 @@ demand_claims files catalog claim w =
 checked_claims : (files : Files) (place : Place) (path : Path) → Claims (claims_none path) (checked_in files place (Some path))
 checked_claims files place path =
     then_claims (claims_none path) (opened_in true files place) (with_opened files place (Some path))
-    (λ it. then_claims (claims_none path) (edited_as Resolve place it) (λ edit. with_demand files it.catalog (claims_none path) edit.demand)
+    (λ it. then_claims (claims_none path) (edited_as resolve place it) (λ edit. with_demand files it.catalog (claims_none path) edit.demand)
     (λ edit. demand_claims files it.catalog (claims_none path) edit.demand))
 
 differ : {A B : Type 0} (a : A) (b : B) → Ok a ≡ Err b → ⊥

@@ -24,7 +24,7 @@ use Rattle.offer_book.specs.AllOffers.{all_offers}
 use Rattle.selection_check.specs.Raises.{IsLeastRaise}
 use Rattle.selection_check.specs.Verdicts.{IsFirstBreach}
 use Rattle.selection_check.specs.declared.verdict.Verdict.{Verdict}
-use Rattle.pkg_commands.specs.declared.command.Command.TheVariants.{Resolve}
+use Rattle.pkg_commands.specs.Commands.{resolve}
 use Rattle.command_answers.specs.declared.status.Difference.TheVariants.{Broken}
 use Rattle.command_answers.specs.declared.status.Status.{Status}
 use Rattle.command_answers.specs.declared.status.Status.TheVariants.{Differs}
@@ -70,7 +70,7 @@ abbrev pub with_demand : Files → SaidCatalog → Claim → Wanted → Result J
 with_demand files catalog claim w = then_ok (booked_in files catalog w (extra_of claim)) (λ book. Ok (judged_of (all_offers files catalog (scope w)) w claim book))
 
 abbrev pub with_claim : Files → Place → Claim → Opened → Result Judged Status
-with_claim files place claim it = then_ok (edited_as Resolve place it) (λ edit. with_demand files it.catalog claim edit.demand)
+with_claim files place claim it = then_ok (edited_as resolve place it) (λ edit. with_demand files it.catalog claim edit.demand)
 
 abbrev pub with_opened : Files → Place → Option Path → Opened → Result Judged Status
 with_opened files place proof it = with_claim files place (claim_of proof it) it
