@@ -2,6 +2,5 @@ pub mod Table
 pub mod Found
 pub mod Numbers
 pub mod Parts
-pub mod Unbuilt
 pub mod Words
 pub mod Seen

@@ -5,11 +5,11 @@ use Rattle.clap.specs.Matches.{found_of}
 use Rattle.clap.specs.Walk.{Row, rows_of}
 use Rattle.clap.specs.declared.parser.matches.ArgMatches.{ArgMatches}
 use Rattle.command_words.specs.declared.asked.Asked as code
-use Rattle.command_words.specs.declared.asked.Asked.TheVariants.{Which, Offers, Status, Verify, Check, Resolve, Add, Remove, Pin, Free, Develop, Make, BadWords, NotBuilt}
+use Rattle.command_words.specs.declared.asked.Asked.TheVariants.{Which, Offers, Status, Verify, Check, Resolve, Add, Remove, Pin, Free, Develop, Make, BadWords}
 use Rattle.command_words.specs.declared.table.Entry.{Entry as CodeEntry}
 use Rattle.command_words.specs.declared.table.Entry.TheVariants.{One, Several, Valued, Flag}
 use Rattle.command_words.specs.Table.{Word, Entry, one, several, option, flag}
-use Rattle.command_words.specs.Words.{Asked, which, offers, status, verify, check, resolve, add, remove, pin, free, develop, make, refused_words, not_built}
+use Rattle.command_words.specs.Words.{Asked, which, offers, status, verify, check, resolve, add, remove, pin, free, develop, make, refused_words}
 
 abbrev pub entry_of : CodeEntry → Entry
 entry_of (One name) = one name.now
@@ -35,7 +35,6 @@ asked_of (Free name budget) = free name budget
 asked_of (Develop path budget) = develop path budget
 asked_of (Make number budget) = make number budget
 asked_of (BadWords word) = refused_words word
-asked_of (NotBuilt word) = not_built word
 
 abbrev pub texts : List (String Global) → List Word
 texts words = map string_bytes words

@@ -11,7 +11,6 @@ use Rattle.command_words.specs.Table.{Word, Entry, one, several, option, flag, m
 use Rattle.command_words.specs.Found.{text_in, texts_in, has_flag}
 use Rattle.command_words.specs.Numbers.{budget_of, number_of, usual_budget}
 use Rattle.command_words.specs.Parts.{name_of, package_of, pinned_of, context_of, file_of, each}
-use Rattle.command_words.specs.Unbuilt.{first_unbuilt}
 
 pub data Asked : Type 0 where
   -- `which` of a name from a context
@@ -39,8 +38,6 @@ pub data Asked : Type 0 where
   make : (number budget : ℕ) → Asked
   -- words that break the rules, with the command word that is told
   refused_words : Word → Asked
-  -- a command or an option that this version does not have yet
-  not_built : Word → Asked
 
 -- the words that each command takes behind its own
 abbrev pub table : Word → Option (List Entry)
@@ -115,11 +112,7 @@ abbrev pub or_refused : Word → Option Asked → Asked
 or_refused command (Some asked) = asked
 or_refused command None = refused_words command
 
-abbrev pub or_unbuilt : Option Word → Asked → Asked
-or_unbuilt (Some word) asked = not_built word
-or_unbuilt None asked = asked
-
 -- what words ask for at a folder
 abbrev pub asked : Path → List Word → Asked
 asked cwd [] = refused_words (codes "-")
-asked cwd (command ∷ rest) = or_unbuilt (first_unbuilt command rest) (or_refused command (words_meant cwd command rest))
+asked cwd (command ∷ rest) = or_refused command (words_meant cwd command rest)

@@ -62,6 +62,4 @@ pub enum Asked {
     },
     /// The words break the rules: the command word, or `-` where there is none.
     BadWords(Text),
-    /// A command or an option that this version does not have yet.
-    NotBuilt(Text),
 }

@@ -8,7 +8,6 @@ mod meaning;
 mod numbers;
 mod parts;
 mod table;
-mod unbuilt;
 mod words;
 
 pub use asked::Asked;

@@ -8,7 +8,6 @@ ghost use Rattle.command_words.specs.Seen.{asked_of, entry_of, rows, texts};
 use crate::asked::Asked;
 use crate::meaning::meaning;
 use crate::table::{Entry, matched};
-use crate::unbuilt::first_unbuilt;
 use pkg_world::{NormPath, Text};
 use std::alloc::{AllocError, Global};
 
@@ -35,8 +34,7 @@ use std::alloc::{AllocError, Global};
 /// relative to the folder. E and LIST are any texts.
 ///
 /// BadWords comes exactly where there is no command word, it is unknown, `clap` refuses the rest by the table, a rule above is
-/// broken or a path rises above the root. NotBuilt, which goes before, comes where the command, or an option of it among the
-/// words, is one that this version does not have yet. The one error is want of memory.
+/// broken or a path rises above the root. The one error is want of memory.
 pub fn read_words(alloc: Global, cwd: &NormPath, words: &[String]) -> Result<Asked, AllocError>
     ensures { IfOk result (λ asked. asked_of asked ≡ spec.asked cwd.now (texts words.now)) }
 {
@@ -53,20 +51,6 @@ fn command_words(
     rest: &[String],
 ) -> Result<Asked, AllocError>
     ensures { IfOk result (λ asked. asked_of asked ≡ spec.asked cwd.now (command.now ∷ texts rest.now)) }
-{
-    match first_unbuilt(command, rest) {
-        Some(word) => Ok(Asked::NotBuilt(Text::of(alloc, word)?)),
-        None => words_or_refused(alloc, cwd, command, rest),
-    }
-}
-
-fn words_or_refused(
-    alloc: Global,
-    cwd: &NormPath,
-    command: &str,
-    rest: &[String],
-) -> Result<Asked, AllocError>
-    ensures { IfOk result (λ asked. asked_of asked ≡ spec.or_refused command.now (spec.words_meant cwd.now command.now (texts rest.now))) }
 {
     match words_meant(alloc, cwd, command, rest)? {
         Some(asked) => Ok(asked),
