@@ -13,19 +13,16 @@ use Rattle.command_answers.specs.Endings.{SaidEnding}
 use Rattle.command_words.specs.declared.words.Asked as code
 use Rattle.command_words.specs.Table.{Word}
 use Rattle.command_words.specs.Seen.{asked_of}
-use Rattle.command_words.specs.Words.{Asked, which, offers, status, verify, check, resolve, add, remove, pin, free, develop, make, refused_words, not_built, asked}
+use Rattle.command_words.specs.Words.{Asked, which, offers, status, verify, check, resolve, add, remove, pin, free, develop, make, refused_words, asked}
 use Rattle.offers_command.specs.OffersDue.{offers_due}
 use Rattle.home_commands.specs.StatusDue.{status_due}
 use Rattle.home_commands.specs.VerifyDue.{verify_due}
 use Rattle.check_command.specs.CheckDue.{IsDue as IsCheckDue}
-use Rattle.edit_commands.specs.ResolveDue.{IsDue as IsResolveDue}
+use Rattle.edit_commands.specs.EditDue.{IsDue as IsEditDue}
+use Rattle.edit_commands.specs.Orders as orders
 use Rattle.pkg_top.specs.WhichDue.{which_due}
 
--- a command that this version does not have yet, by its word
-abbrev pub unbuilt : List ℕ → Option Status
-unbuilt word = Some (NotBuilt word)
-
--- the refusal that is due by the words alone
+-- the refusal that is due by the words alone; this version does not have `make` yet
 abbrev pub early_of : Asked → Option Status
 early_of (which name context) = None
 early_of (offers name) = None
@@ -33,14 +30,13 @@ early_of (status all extensions) = None
 early_of (verify name list) = None
 early_of (check proof) = None
 early_of (resolve budget classes proof) = None
-early_of (add named budget) = unbuilt (codes "add")
-early_of (remove names budget) = unbuilt (codes "rm")
-early_of (pin name version budget) = unbuilt (codes "pin")
-early_of (free name budget) = unbuilt (codes "free")
-early_of (develop path budget) = unbuilt (codes "develop")
-early_of (make number budget) = unbuilt (codes "make")
+early_of (add named budget) = None
+early_of (remove names budget) = None
+early_of (pin name version budget) = None
+early_of (free name budget) = None
+early_of (develop path budget) = None
+early_of (make number budget) = Some (NotBuilt (codes "make"))
 early_of (refused_words word) = Some (BadWords word)
-early_of (not_built word) = Some (NotBuilt word)
 
 abbrev pub early_due : Path → List Word → Option Status
 early_due cwd words = early_of (asked cwd words)
@@ -52,6 +48,11 @@ AsksFor cwd words answer = MatchResult answer (λ found. (early_due cwd words �
 -- what is asked replaces no file
 abbrev pub IsReading : Asked → Type 0
 IsReading (resolve budget classes proof) = ⊥
+IsReading (add named budget) = ⊥
+IsReading (remove names budget) = ⊥
+IsReading (pin name version budget) = ⊥
+IsReading (free name budget) = ⊥
+IsReading (develop path budget) = ⊥
 IsReading _ = Unit {0}
 
 -- what each command that replaces no file is due to answer; a verdict is due by a relation
@@ -75,7 +76,12 @@ IsPlain IsIt (Err refusal) = IsIt (Err refusal)
 
 -- what each command is due to end with
 abbrev pub IsEndingOf : Files → Place → Asked → Result SaidEnding Status → Type 0
-IsEndingOf files place (resolve budget classes proof) answer = IsResolveDue files place budget classes proof answer
+IsEndingOf files place (resolve budget classes proof) answer = IsEditDue files place (orders.resolve classes proof) budget answer
+IsEndingOf files place (add named budget) answer = IsEditDue files place (orders.add named) budget answer
+IsEndingOf files place (remove names budget) answer = IsEditDue files place (orders.remove names) budget answer
+IsEndingOf files place (pin name version budget) answer = IsEditDue files place (orders.pin name version) budget answer
+IsEndingOf files place (free name budget) answer = IsEditDue files place (orders.free name) budget answer
+IsEndingOf files place (develop path budget) answer = IsEditDue files place (orders.develop path) budget answer
 IsEndingOf files place asked answer = IsPlain (IsAnswerOf files place asked) answer
 
 abbrev pub IsDueAfter : Files → Place → Option Status → Asked → Result SaidEnding Status → Type 0

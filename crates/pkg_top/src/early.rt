@@ -16,12 +16,6 @@ pub(crate) fn asked_for(alloc: Global, cwd: &NormPath, words: &[String]) -> Resu
 {
     match read_words(alloc, cwd, words) {
         Ok(Asked::BadWords(word)) => Err(Status::BadWords(word)),
-        Ok(Asked::NotBuilt(word)) => Err(Status::NotBuilt(word)),
-        Ok(Asked::Add { .. }) => Err(not_built(alloc, "add")),
-        Ok(Asked::Remove { .. }) => Err(not_built(alloc, "rm")),
-        Ok(Asked::Pin { .. }) => Err(not_built(alloc, "pin")),
-        Ok(Asked::Free { .. }) => Err(not_built(alloc, "free")),
-        Ok(Asked::Develop { .. }) => Err(not_built(alloc, "develop")),
         Ok(Asked::Make { .. }) => Err(not_built(alloc, "make")),
         Ok(asked) => Ok(asked),
         Err(_) => Err(Status::Memory),

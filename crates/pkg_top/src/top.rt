@@ -15,7 +15,7 @@ use crate::writing::finish;
 use check_command::check;
 use command_answers::{Ended, Ending, Status, Writes};
 use command_words::Asked;
-use edit_commands::resolve_project;
+use edit_commands::{Order, write_project};
 use home_commands::{status_lines, verify};
 use offers_command::offers;
 use pkg_world::{Place, Sink, Store};
@@ -28,12 +28,14 @@ use std::alloc::Global;
 /// Where the store tells its files, status, text and files are those that the definitions give for them, by the command: `which`
 /// answers the import of a name from a context over the environments of the load path (Julia manual, Code Loading), `status` tells
 /// the stanzas of its dependencies, `offers` the versions that registries list under a name, `verify` whether an
-/// installed tree is the manifest's (Git's object format), `check` whether what the manifest says is valid for the offers of
-/// the files and the project's demand, and what could be raised, and `resolve` replaces the manifest by such a selection, in
-/// which nothing can be raised (Pkg, Compatibility). The first five replace no file.
+/// installed tree is the manifest's (Git's object format), and `check` whether what the manifest says is valid for the offers of
+/// the files and the project's demand, and what could be raised. These replace no file. `resolve`, `pin` and `free` replace the
+/// manifest by such a selection, in which nothing can be raised, and `add`, `rm` and `develop` the project file before it (Pkg,
+/// Compatibility).
 ///
 /// A refusal leaves all files as they were, but for these: at WriteFault and Blocked, which carry a path that was to be
-/// replaced, the files before it are replaced; at SinkFault all are; and at Memory the first few may be.
+/// replaced, the files before it are replaced; at SinkFault all are; and at Memory the first few may be. At Unsatisfiable of
+/// `resolve --proof` the file that is named has the certificate.
 /// ReadFault, WriteFault and SinkFault come only where the store's and the sink's counts of faults rose, and want of memory is free.
 pub fn run<S: Store, O: Sink, E: Sink>(
     alloc: Global,
@@ -109,7 +111,30 @@ fn answer_to<S: Store>(
             budget,
             classes,
             proof,
-        } => resolve_project(alloc, place, budget, classes, &proof, store),
+        } => write_project(
+            alloc,
+            place,
+            Order::Resolve { classes, proof },
+            budget,
+            store,
+        ),
+        Asked::Add { words, budget } => {
+            write_project(alloc, place, Order::Add(words), budget, store)
+        }
+        Asked::Remove { names, budget } => {
+            write_project(alloc, place, Order::Remove(names), budget, store)
+        }
+        Asked::Pin {
+            name,
+            version,
+            budget,
+        } => write_project(alloc, place, Order::Pin(name, version), budget, store),
+        Asked::Free { name, budget } => {
+            write_project(alloc, place, Order::Free(name), budget, store)
+        }
+        Asked::Develop { path, budget } => {
+            write_project(alloc, place, Order::Develop(path), budget, store)
+        }
         asked => ending_with(alloc, reading(alloc, asked, place, store)),
     }
 }
@@ -158,6 +183,5 @@ fn reading<S: Store>(
         Asked::Develop { .. } => unreachable!(),
         Asked::Make { .. } => unreachable!(),
         Asked::BadWords(_) => unreachable!(),
-        Asked::NotBuilt(_) => unreachable!(),
     }
 }
