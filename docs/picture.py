@@ -13,10 +13,10 @@ LAYERS = {
     "The outside": "pkg_world",
     "Texts and values": "jl_versions compat_spec toml_view package_tables depot_hash",
     "Files": "project_file manifest_file registry_tables registered_offers",
-    "Environments": "project_places home_files extension_rules env_maps import_lookup",
-    "What is chosen among": "standard_libraries fixed_packages offer_terms package_offers offer_catalog offer_book selection_check pkg_commands manifest_writing written_selection",
+    "Environments": "project_places home_files extension_rules entry_files env_maps import_lookup",
+    "What is chosen among": "standard_libraries fixed_packages offer_terms package_offers offer_catalog offer_book selection_check package_names project_changes pkg_commands manifest_writing written_selection tree_extensions world_maker",
     "The resolver's core": "bit_rows lex_weights version_graph graph_pruning refutation_log maxsum_messages decimation_repair raise_pass instance_search book_graph resolve_core log_text alike_refutations",
-    "The command": "command_answers file_replacing command_words offers_command home_commands project_phases log_check check_command resolve_lines edit_commands pkg_top",
+    "The command": "command_answers file_replacing command_words offers_command home_commands project_phases log_check check_command resolve_lines edit_commands make_command pkg_top",
     "The edge": "read_once jlpkg",
     "Cases and tests": "worked_cases text_tests file_tests store_tests depot_tests graph_tests log_tests offer_tests selection_tests resolve_tests",
 }
