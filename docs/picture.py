@@ -18,7 +18,7 @@ LAYERS = {
     "The resolver's core": "bit_rows lex_weights version_graph graph_pruning refutation_log maxsum_messages decimation_repair raise_pass instance_search book_graph resolve_core log_text alike_refutations",
     "The command": "command_answers file_replacing command_words offers_command home_commands project_phases log_check check_command resolve_lines edit_commands make_command pkg_top",
     "The edge": "read_once jlpkg",
-    "Cases and tests": "worked_cases text_tests file_tests store_tests depot_tests graph_tests log_tests offer_tests selection_tests resolve_tests",
+    "Cases and tests": "worked_cases text_tests file_tests store_tests depot_tests graph_tests log_tests world_tests offer_tests selection_tests resolve_tests",
 }
 
 
