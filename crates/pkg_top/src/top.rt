@@ -2,7 +2,7 @@
 ghost use Rattle.std.specs.Prelude.{◌≡◌, ◌≤◌, None, IfSome, IfOk, IfErr};
 ghost use Rattle.command_answers.specs.Answers.{IsLate, IsTimely, ReadFaultRose, WriteFaultRose, SinkFaultRose, PrintsOnlyAtOk, IsUnprinted, Tells};
 ghost use Rattle.command_answers.specs.Endings.{EndsBy, TellsLate};
-ghost use Rattle.check_command.specs.Answered.{AnswersBy};
+ghost use Rattle.log_check.specs.Answered.{AnswersBy};
 ghost use Rattle.command_words.specs.Seen.{asked_of, texts};
 ghost use Rattle.command_words.specs.Words.{asked as meant};
 ghost use Rattle.pkg_top.specs.Due.{IsReading, IsAnswerOf, IsEndingOf, IsDue, IsEndingWith, EndsTimely, IsStill, early_of, early_due};
