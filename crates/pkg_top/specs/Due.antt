@@ -10,7 +10,7 @@ use Rattle.command_answers.specs.declared.status.Status.TheVariants.{BadWords, N
 use Rattle.command_answers.specs.declared.ending.Ending.{Ending}
 use Rattle.command_answers.specs.Answers.{RefusesEarly, IsTimely}
 use Rattle.command_answers.specs.Endings.{SaidEnding}
-use Rattle.command_words.specs.declared.words.Asked as code
+use Rattle.command_words.specs.declared.asked.Asked as code
 use Rattle.command_words.specs.Table.{Word}
 use Rattle.command_words.specs.Seen.{asked_of}
 use Rattle.command_words.specs.Words.{Asked, which, offers, status, verify, check, resolve, add, remove, pin, free, develop, make, refused_words, asked}
