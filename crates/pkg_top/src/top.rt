@@ -1,11 +1,11 @@
 //! The top call.
-ghost use Rattle.std.specs.Prelude.{◌≡◌, ◌≤◌, None, IfSome, IfOk, IfErr};
+ghost use Rattle.std.specs.Prelude.{◌≡◌, ◌≤◌, [], None, IfSome, IfOk, IfErr};
 ghost use Rattle.command_answers.specs.Answers.{IsLate, IsTimely, ReadFaultRose, WriteFaultRose, SinkFaultRose, PrintsOnlyAtOk, IsUnprinted, Tells};
 ghost use Rattle.command_answers.specs.Endings.{EndsBy, TellsLate};
 ghost use Rattle.log_check.specs.Answered.{AnswersBy};
 ghost use Rattle.command_words.specs.Seen.{asked_of, texts};
 ghost use Rattle.command_words.specs.Words.{asked as meant};
-ghost use Rattle.pkg_top.specs.Due.{IsReading, IsAnswerOf, IsEndingOf, IsDue, IsEndingWith, EndsTimely, IsStill, early_of, early_due};
+ghost use Rattle.pkg_top.specs.Due.{IsReading, IsAnswerOf, IsPlain, IsEndingOf, IsDue, IsEndingWith, EndsTimely, IsStill, early_of, early_due};
 ghost use Rattle.pkg_top.specs.Left.{Ends};
 
 use crate::early::asked_for;
@@ -135,8 +135,38 @@ fn answer_to<S: Store>(
         Asked::Develop { path, budget } => {
             write_project(alloc, place, Order::Develop(path), budget, store)
         }
-        asked => ending_with(alloc, reading(alloc, asked, place, store)),
+        Asked::Which(name, context) => plain(alloc, Asked::Which(name, context), place, store),
+        Asked::Offers(name) => plain(alloc, Asked::Offers(name), place, store),
+        Asked::Status { all, extensions } => {
+            plain(alloc, Asked::Status { all, extensions }, place, store)
+        }
+        Asked::Verify(name, list) => plain(alloc, Asked::Verify(name, list), place, store),
+        Asked::Check { proof } => plain(alloc, Asked::Check { proof }, place, store),
+        Asked::Make { .. } => unreachable!(),
+        Asked::BadWords(_) => unreachable!(),
     }
+}
+
+/// The ending of a command that replaces no file: its line alone.
+fn plain<S: Store>(
+    alloc: Global,
+    asked: Asked,
+    place: &Place,
+    store: &mut S,
+) -> Result<Ending, Status>
+    requires early { early_of (asked_of asked) ≡ None }
+    requires reads { IsReading (asked_of asked) }
+    ensures answer { IfSome (S.files store.old) (λ all. EndsBy (IsPlain (IsAnswerOf all place.now (asked_of asked))) result) }
+    ensures still { IfOk result (λ it. it.writes.items ≡ []) }
+    ensures told { IfOk result TellsLate }
+    ensures late { IfErr result IsLate }
+    ensures fault { IfErr result (ReadFaultRose (S.read_faults store.old) (S.read_faults store.new)) }
+    ensures unprinted { IfErr result IsUnprinted }
+    ensures files { S.files store.new ≡ S.files store.old }
+    ensures later { S.read_faults store.old ≤ S.read_faults store.new }
+    ensures other { S.write_faults store.new ≡ S.write_faults store.old }
+{
+    ending_with(alloc, reading(alloc, asked, place, store))
 }
 
 /// The ending of a line, which replaces no file.
